@@ -1,0 +1,3 @@
+pub mod Equalities
+pub mod Searches
+pub mod Shifts
