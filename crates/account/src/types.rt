@@ -8,12 +8,12 @@ pub enum Next {
     Sent,
 }
 
-// A sheet of the account that the node has sent to the register and hasn't seen there: its number, and the last
-// tick by which it arrives.
+// A sheet of the account that the node has sent to the register and hasn't seen there: its number, and the tick of the
+// look at which it was sent.
 #[derive(Clone, Copy, PartialEq, Eq, Debug)]
 pub struct OnItsWay {
     pub number: u32,
-    pub by: u32,
+    pub at: u32,
 }
 
 // Held is the last sheet that both have signed; the next sheet counts for something only where `next` says so.

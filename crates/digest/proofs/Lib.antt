@@ -1,0 +1,4 @@
+pub mod Blocks
+pub mod Endings
+pub mod Steps
+pub mod Vectors

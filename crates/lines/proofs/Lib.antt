@@ -1,0 +1,3 @@
+pub mod Decimals
+pub mod Pairs
+pub mod Seeks
