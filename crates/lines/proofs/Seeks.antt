@@ -10,10 +10,10 @@ use lib.ListN.{length, take, drop, getD, length-drop}
 use Rattle.std.specs.declared.option.Option.{Option}
 use Rattle.std.specs.declared.option.Option.the-variants.{Some, None}
 use Rattle.std.proofs.shelf.Lists.{at-drop-more, at-drop-all, take-rest, take-all, drop-all}
-use Rattle.std.proofs.shelf.Tests.{cond-true, cond-false, cond-both, eqb-false, true≢false}
+use Rattle.std.proofs.shelf.Tests.{cond-true, cond-false, cond-both, eqb-false, eq-eqb, ne-eqb, true≢false}
 use Rattle.std.specs.Options.{valueOr}
 use Rattle.std.specs.shelf.Lists.{All}
-use Rattle.lines.specs.Lines.{seek, cutAt, pastFirst, parts, partsAfter, onFirst, filled, words, wordIn, wordThenWords, firstWord, FirstThenRest, WordsStand}
+use Rattle.lines.specs.Lines.{seek, cutAt, pastFirst, parts, partsAfter, onFirst, filled, words, wordIn, wordThenWords, firstWord, FirstThenRest, WordsStand, PartsComeApart}
 
 module _ (is : Bool) (b : ℕ) (xs : List ℕ) (i : ℕ) (inv : i + seek is b (drop i xs) ≡ seek is b xs) where
   pub seek-here : i < length xs → Bool·beq (eqb (getD xs i 0) b) is ≡ true → i ≡ seek is b xs
@@ -110,6 +110,13 @@ filled-stand ((x ∷ p) ∷ ps) h = ((omega arith, h .0), filled-stand ps (h .1)
 
 pub words-stand : WordsStand
 words-stand line = filled-stand _ (parts-free 32 line)
+
+pub parts-come-apart : PartsComeApart
+parts-come-apart b [] h = (refl, λ t. cond-true _ _ _ (eq-eqb b b refl))
+parts-come-apart b (x ∷ w) h =
+    let other = ne-eqb x b (h .0) in
+    let rest = parts-come-apart b w (h .1) in
+    (cond-false _ _ _ other ∙ ap (onFirst x) (rest .0), λ t. cond-false _ _ _ other ∙ ap (onFirst x) (rest .1 t))
 
 -- what the first word is, from where the line's first byte that is no space stands
 word-in-some : (t : List ℕ) → 0 < length t → wordIn t ≡ Some (cutAt 32 t .0, valueOr (cutAt 32 t .1) [])

@@ -1,12 +1,12 @@
 -- The text of a line, as bytes: its words, the parts of a word, decimal numbers and hexadecimal. Assumes nothing.
 use mathlib.Core.Bool.{Bool, true, false, Bool·beq, cond}
-use mathlib.Core.List.{List, [], _∷_}
+use mathlib.Core.List.{List, [], _∷_, _++_}
 use mathlib.Core.Path.{_≡_}
 use Prim.Native.Nat.{ℕ, suc, _+_, _-_, _*_, _/_, _%_, _^_, _<_}
 use lib.Dec.{eqb, leb, ltb}
 use lib.ListN.{length, take, drop}
 use Rattle.std.specs.Options.{Cases, valueOr}
-use Rattle.std.specs.Text.{asciiDigit, within}
+use Rattle.std.specs.Text.{within}
 use Rattle.std.specs.Written as written
 use Rattle.std.specs.declared.option.Option.{Option}
 use Rattle.std.specs.declared.option.Option.the-variants.{Some, None}
@@ -34,6 +34,10 @@ onFirst x (p ∷ ps) = (x ∷ p) ∷ ps
 abbrev pub parts : ℕ → List ℕ → List (List ℕ)
 parts b [] = [] ∷ []
 parts b (x ∷ xs) = cond (eqb x b) ([] ∷ parts b xs) (onFirst x (parts b xs))
+
+-- Words without b, with a b between one and the next, come apart into those words.
+abbrev pub PartsComeApart : Type 0
+PartsComeApart = (b : ℕ) (w : List ℕ) → All (λ x. x ≡ b → ⊥) w → (parts b w ≡ w ∷ []) × ((t : List ℕ) → parts b (w ++ b ∷ t) ≡ w ∷ parts b t)
 
 -- those that are not empty
 abbrev pub filled : List (List ℕ) → List (List ℕ)
@@ -107,6 +111,7 @@ abbrev pub decimalAfter : ℕ → List ℕ → ℕ
 decimalAfter n [] = n
 decimalAfter n (b ∷ bs) = decimalAfter (n * 10 + (b - 48)) bs
 
+-- The value of decimal digits.
 abbrev pub decimal : List ℕ → ℕ
 decimal bs = decimalAfter 0 bs
 
@@ -114,7 +119,8 @@ decimal bs = decimalAfter 0 bs
 abbrev pub largest : ℕ
 largest = 4294967295
 
--- A number is one or more decimal digits and nothing else, of a value that is not too large. Leading zeros are of no matter.
+-- A number is one or more decimal digits, bytes from 48 to 57, and nothing else, of a value that is not too large.
+-- Leading zeros are of no matter. A word that is no number and a number that is too large are told apart.
 abbrev pub numberRead : List ℕ → Result ℕ NumberFault
 numberRead [] = Err NotANumber
 numberRead (b ∷ bs) =
@@ -160,6 +166,7 @@ hexReadExact n ds = cond (eqb (length ds) (2 * n)) (hexRead ds) None
 abbrev pub hexCode : ℕ → ℕ
 hexCode d = cond (ltb d 10) (48 + d) (87 + d)
 
+-- The digits of bytes, two for each, the high digit first.
 abbrev pub hexWritten : List ℕ → List ℕ
 hexWritten [] = []
 hexWritten (b ∷ bs) = hexCode (b / 16) ∷ hexCode (b % 16) ∷ hexWritten bs

@@ -9,7 +9,7 @@ ghost use Prim.Native.Nat.{_+_, _*_, _%_, min, _<_, _≤_};
 ghost use Rattle.lines.specs.Lines.{seek, Cut, First, wordAndRest, space, colon};
 ghost use Rattle.lines.specs.Lines.{decimal, numberRead, decimalWritten};
 ghost use Rattle.lines.specs.Lines.{hexDigit, hexPair, hexRead, hexReadExact, hexCode, hexWritten};
-ghost use Rattle.lines.specs.Lines.{FirstThenRest, WordsStand, NumberReadsBack, HexReadsBack};
+ghost use Rattle.lines.specs.Lines.{PartsComeApart, FirstThenRest, WordsStand, NumberReadsBack, HexReadsBack};
 ghost use Rattle.std.specs.declared.option.Option.the-variants.{Some, None};
 ghost use Rattle.std.specs.Of.Vec.{vec-items, vec-len, vec-cap};
 ghost use Rattle.std.specs.Options.{mapped, Cases};
@@ -131,63 +131,12 @@ pub fn number(word: &[u8]) -> Result<u32, NumberFault>
     }
 }
 
-// The values of the hexadecimal digits from '0' to 'f', with 16 where a byte is none.
+// The values of the bytes from '0' to 'f' as digits, with 16 for a byte that is none; the rows begin at '0', 'A' and 'a'.
+#[rattlefmt::skip]
 const DIGIT_VALUES: [u8; 55] = [
-    0,
-    1,
-    2,
-    3,
-    4,
-    5,
-    6,
-    7,
-    8,
-    9,
-    16,
-    16,
-    16,
-    16,
-    16,
-    16,
-    16,
-    10,
-    11,
-    12,
-    13,
-    14,
-    15,
-    16,
-    16,
-    16,
-    16,
-    16,
-    16,
-    16,
-    16,
-    16,
-    16,
-    16,
-    16,
-    16,
-    16,
-    16,
-    16,
-    16,
-    16,
-    16,
-    16,
-    16,
-    16,
-    16,
-    16,
-    16,
-    16,
-    10,
-    11,
-    12,
-    13,
-    14,
-    15,
+    0, 1, 2, 3, 4, 5, 6, 7, 8, 9, 16, 16, 16, 16, 16, 16, 16,
+    10, 11, 12, 13, 14, 15, 16, 16, 16, 16, 16, 16, 16, 16, 16, 16, 16, 16, 16, 16, 16, 16, 16, 16, 16, 16, 16, 16, 16, 16, 16, 16,
+    10, 11, 12, 13, 14, 15,
 ];
 
 // The value of a hexadecimal digit, or 16: by a table, since the digits of a word are hard to foresee for a branch.
@@ -355,6 +304,13 @@ pub fn push_number(out: &mut Vec<u8>, n: u32) -> Result<(), AllocError>
 {
     out.extend_from_slice(digits_of(n).text())?;
     Ok(())
+}
+
+// Words without a byte, with that byte between them, come apart at it into those words.
+pub fn parts_come_apart() -> u8
+    ensures { λ _. ⌜ PartsComeApart ⌝ }
+{
+    0
 }
 
 // The words of a line are its first word and the words of what follows that.
