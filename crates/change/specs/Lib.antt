@@ -1,1 +1,4 @@
 pub mod Changes
+pub mod Follows
+pub mod Reasons
+pub mod Totals

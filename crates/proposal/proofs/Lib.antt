@@ -1,0 +1,3 @@
+pub mod Equalities
+pub mod Meanings
+pub mod Missing

@@ -1,0 +1,3 @@
+pub mod Proposals
+pub mod Recognised
+pub mod Sames

@@ -1,0 +1,4 @@
+pub mod Appends
+pub mod Bytes
+pub mod Sheets
+pub mod Theorems
