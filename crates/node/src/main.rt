@@ -41,17 +41,6 @@ fn asked(rt: &LibcRuntime) -> Result<Task, AnyError> {
     Ok(Task::Run(word))
 }
 
-// Sees that the folder is there and can be read; says what is wrong otherwise.
-fn open_folder(rt: &LibcRuntime, folder: &str) -> Result<(), AnyError> {
-    match fs::read_dir(rt, folder) {
-        Ok(_entries) => Ok(()),
-        Err(e) => {
-            eprintln!(rt, "node: can't open the folder {folder}: {e}")?;
-            Err("the node did not start".into())
-        }
-    }
-}
-
 // The answer to one line, written at once.
 fn answer(rt: &LibcRuntime, line: &[u8]) -> Result<(), AnyError> {
     match read_request(line) {
@@ -77,24 +66,30 @@ fn answer_lines(rt: &LibcRuntime) -> Result<(), AnyError> {
     Ok(())
 }
 
+// Answers lines to the end of the input. What stops it before is said on standard error.
 fn run(rt: &LibcRuntime, folder: &str) -> Result<(), AnyError> {
-    open_folder(rt, folder)?;
+    if let Err(e) = fs::read_dir(rt, folder) {
+        eprintln!(rt, "node: can't open the folder {folder}: {e}")?;
+        return Err("the folder can't be opened".into());
+    }
     println!(rt, "ready")?;
-    answer_lines(rt)
+    if let Err(e) = answer_lines(rt) {
+        eprintln!(rt, "node: stopped: {e}")?;
+        return Err(e);
+    }
+    Ok(())
 }
 
+// A failure is said where it is found; the error only ends the program with status 1.
 fn main(rt: LibcRuntime) -> Result<(), AnyError> {
     match asked(&rt)? {
-        Task::Run(folder) => rt.report(run(&rt, folder.as_str())),
+        Task::Run(folder) => run(&rt, folder.as_str()),
         Task::Help => {
             println!(rt, "{HELP}")?;
             Ok(())
         }
         Task::Usage => {
-            eprintln!(
-                rt,
-                "node: one argument, its folder: node FOLDER (node --help says more)"
-            )?;
+            eprintln!(rt, "node: one argument, its folder: node FOLDER (node --help says more)")?;
             Err("usage".into())
         }
     }

@@ -1,7 +1,6 @@
 -- What the checker knows of a sheet that a function is passed: its numbers fit, down to the bytes of each lock.
-use mathlib.Core.Path.{_≡_}
 use mathlib.Core.List.{List, [], _∷_}
-use Prim.Native.Nat.{ℕ, _^_, _≤_, _<_}
+use Prim.Native.Nat.{ℕ, _≤_, _<_}
 use native.Mathlib.Omega.{arith}
 use lib.ListN.{length, take}
 use mir.Syntax.{w8}
@@ -20,7 +19,7 @@ use Rattle.sheet.specs.declared.types.Sheet.{Sheet}
 use Rattle.sheet.specs.contracts.types.Payment as payments
 use Rattle.sheet.specs.contracts.types.Sheet as sheets
 use Rattle.sheet.specs.Contents.{contentOf}
-use Rattle.sheet_bytes.specs.Theorems.{AreBytes, GoodPayment, Good}
+use Rattle.sheet_bytes.specs.Theorems.{GoodPayment, Good}
 
 -- what is known of each element of an array
 all-known : {X : Type 0} (f : X → List Val → Fml) (P : X → Type 0) → ((x : X) (v : Val) → shadow (f x (v ∷ [])) → P x) → (xs : List X) (vs : List Val) → shadow (each X f xs vs) → All P xs

@@ -1,15 +1,14 @@
 -- The theorems on the bytes of sheets.
 use mathlib.Core.Path.{_≡_, refl, sym, ap, subst, _∙_}
-use mathlib.Core.Bool.{Bool, true, false, cond, _&&_}
+use mathlib.Core.Bool.{Bool, true, false}
 use mathlib.Core.List.{List, [], _∷_, _++_}
-use Prim.Native.Nat.{ℕ, zero, suc, _+_, _*_, _%_, _≤_, _<_}
+use Prim.Native.Nat.{ℕ, _+_, _*_, _≤_, _<_}
 use native.Mathlib.Omega.{arith}
 use lib.Dec.{leb}
 use lib.ListN.{length, getD, take, drop}
 use lib.Seq.{take-add}
-use Rattle.std.proofs.shelf.Bits.{mod-below}
 use Rattle.std.proofs.shelf.Elements.{all-append, all-drop, all-getD, all-take}
-use Rattle.std.proofs.shelf.Lists.{append-assoc, append-nil, drop-at, drop-drop, drop-more, getD-at, getD-drop, length-append, length-drop, length-take, take-append-drop, take-more, take-take}
+use Rattle.std.proofs.shelf.Lists.{append-assoc, append-nil, drop-at, drop-drop, drop-more, getD-at, length-append, length-drop, length-take, take-append-drop, take-more, take-take}
 use Rattle.std.proofs.shelf.Tests.{and-from, and-parts, cond-true, cond-false, le-leb, leb-true}
 use Rattle.std.specs.shelf.Lists.{All, joined}
 use Rattle.std.specs.declared.result.Result.{Result}

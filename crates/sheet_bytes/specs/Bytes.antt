@@ -26,11 +26,11 @@ paymentBytes p = p .lock ++ numberBytes (p .amount) ++ numberBytes (p .end)
 abbrev pub listBytes : List Payment → List ℕ
 listBytes ps = length ps ∷ joined paymentBytes ps
 
--- What comes first of a sheet: the account in one byte, the number, own, theirs.
+-- The head of a sheet: the account in one byte, the number, own, theirs.
 unfoldable pub headBytes : Content → List ℕ
 headBytes s = (s .account ∷ []) ++ numberBytes (s .number) ++ numberBytes (s .own) ++ numberBytes (s .theirs)
 
--- A sheet: this, the ins, the outs.
+-- A sheet: the head, the ins, the outs.
 unfoldable pub sheetBytes : Content → List ℕ
 sheetBytes s = headBytes s ++ listBytes (s .ins) ++ listBytes (s .outs)
 
@@ -62,7 +62,7 @@ insOf bs = getD bs 13 0
 abbrev pub outsOf : List ℕ → ℕ
 outsOf bs = getD bs (14 + 40 * insOf bs) 0
 
--- How many bytes a sheet takes that says so.
+-- How many bytes such a sheet takes.
 abbrev pub sizeOf : List ℕ → ℕ
 sizeOf bs = 15 + 40 * insOf bs + 40 * outsOf bs
 

@@ -1,6 +1,5 @@
-// The bytes of payments and sheets: what messages and the file hold.
-// Promises: each writer appends, and each reader reads, just the bytes of specs/Bytes.antt, and reading gives back
-// what was written (specs/Theorems.antt). Leans on sheet and refusal.
+// The bytes of payments and sheets, as messages and the file hold them. Leans on sheet and refusal.
+// Promises: bytes are written and read just as specs/Bytes.antt says, and what was written is read back (specs/Theorems.antt).
 ghost use Rattle.sheet.specs.Contents.{contentOf};
 ghost use Rattle.sheet_bytes.specs.Theorems.{Good, ReadBack, RoundTrip, OnlyWritten, CutShort};
 use sheet::Sheet;

@@ -12,6 +12,7 @@ pub(crate) fn put_bytes(out: &mut Vec<u8>, bytes: &[u8])
     requires { ⌜ Room (now out) (length (now bytes)) ⌝ }
     ensures { λ _. ⌜ Put (now (out .entry)) (now (out .exit)) (now (bytes .entry)) (length (now (bytes .entry))) ⌝ }
 {
+    // with that room it can't fail
     let _ = out.extend_from_slice(bytes);
 }
 

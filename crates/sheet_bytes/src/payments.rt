@@ -1,24 +1,25 @@
 // Payments as 40 bytes, and lists of them.
 ghost use mathlib.Core.Path.{_≡_};
-ghost use mathlib.Core.List.{[], _∷_};
 ghost use Prim.Native.Nat.{_+_, _*_, _≤_};
 ghost use lib.ListN.{length, take, drop};
 ghost use Rattle.std.specs.Of.Vec.{vec-items};
+ghost use Rattle.std.specs.shelf.Lists.{joined};
 ghost use Rattle.sheet_bytes.specs.Appends.{Appended, Room, Put};
 ghost use Rattle.sheet_bytes.specs.Bytes.{paymentBytes, listBytes, paymentOf, paymentsOf, paymentRead};
-ghost use Rattle.std.specs.shelf.Lists.{joined};
 use crate::numbers::number_at;
 use crate::numbers::put_bytes;
 use crate::numbers::put_number;
 use sheet::Payment;
 use std::alloc::AllocError;
 
+// What stands past the payments that were read.
 const NOTHING: Payment = Payment {
     lock: [0; 32],
     amount: 0,
     end: 0,
 };
 
+// Appends the bytes of a payment, for which there is room.
 fn put_payment(out: &mut Vec<u8>, payment: &Payment)
     requires { ⌜ Room (now out) 40 ⌝ }
     ensures { λ _. ⌜ Put (now (out .entry)) (now (out .exit)) (paymentBytes (now (payment .entry))) 40 ⌝ }
@@ -28,6 +29,7 @@ fn put_payment(out: &mut Vec<u8>, payment: &Payment)
     put_number(out, payment.end);
 }
 
+// Appends payments one after another.
 fn put_payments(out: &mut Vec<u8>, list: &[Payment])
     requires { ⌜ Room (now out) (40 * length (now list)) ⌝ }
     ensures { λ _. ⌜ Put (now (out .entry)) (now (out .exit)) (joined paymentBytes (now (list .entry))) (40 * length (now (list .entry))) ⌝ }
@@ -56,6 +58,7 @@ pub fn push_payment(out: &mut Vec<u8>, payment: &Payment) -> Result<(), AllocErr
     Ok(())
 }
 
+// The 32 bytes at a place where they are known to be.
 fn lock_at(bytes: &[u8], at: usize) -> [u8; 32]
     requires { ⌜ at + 32 ≤ length (now bytes) ⌝ }
     ensures { λ r. ⌜ r ≡ take 32 (drop at (now (bytes .entry))) ⌝ }

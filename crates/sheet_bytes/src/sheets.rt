@@ -1,9 +1,9 @@
 // Sheets as bytes: account (1), number (4), own (4), theirs (4), how many ins (1), these (40 each), how many outs (1),
 // these (40 each).
 ghost use mathlib.Core.Path.{_≡_};
+ghost use mathlib.Core.List.{_++_};
 ghost use Prim.Native.Nat.{_+_, _-_, _*_, _≤_, _<_};
 ghost use lib.ListN.{length, drop};
-ghost use mathlib.Core.List.{_++_};
 ghost use Rattle.std.specs.Of.Vec.{vec-items};
 ghost use Rattle.std.specs.Vec.{made};
 ghost use Rattle.sheet.specs.Contents.{contentOf};

@@ -1,4 +1,3 @@
-use mathlib.Core.Path.{refl}
 use Rattle.sheet_bytes.proofs.Appending.{put-then}
 use Rattle.sheet_bytes.proofs.payments.put_list.Needs as need
 
