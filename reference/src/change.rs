@@ -62,16 +62,35 @@ fn take_off(lock: &[u8; 32], payments: &mut Vec<Payment>, purse: &mut u32) -> Re
     Ok(())
 }
 
-/// Which change a neighbour may propose has exactly `proposed`, in the node's view, as its result.
-/// The account is not compared: each side has its own number for it.
+/// Which change a neighbour may propose makes `proposed` out of `held`, and with which payment.
+/// Both are in the node's view, the account too: the caller sets it to the node's own number for it.
+/// Of an offer that theirs doesn't cover, the proposed theirs is not looked at; `apply` refuses it.
 pub fn recognise(held: &Sheet, proposed: &Sheet) -> Option<(Change, Payment)> {
-    let offered = proposed.ins.first().map(|payment| (Change::Offered, *payment));
-    let returned = held.outs.iter().map(|payment| (Change::Returned, *payment));
-    let getting = held.ins.iter().map(|payment| (Change::Getting, *payment));
-    offered.into_iter().chain(returned).chain(getting).find(|(change, payment)| {
-        apply(held, *change, payment)
-            .is_ok_and(|next| Sheet { account: proposed.account, ..next } == *proposed)
-    })
+    if let Some(payment) = recognise_offer(held, proposed) {
+        return Some((Change::Offered, payment));
+    }
+    let returned = first_other(&held.outs, &proposed.outs).map(|out| (Change::Returned, out));
+    let getting = first_other(&held.ins, &proposed.ins).map(|payment| (Change::Getting, payment));
+    let mut taken_off = returned.into_iter().chain(getting);
+    taken_off.find(|(change, payment)| apply(held, *change, payment).as_ref() == Ok(proposed))
+}
+
+/// The payment with which `proposed` is an offer, which may still be refused for its lock or its amount.
+fn recognise_offer(held: &Sheet, proposed: &Sheet) -> Option<Payment> {
+    let (payment, others) = proposed.ins.split_first()?;
+    let offer = Sheet {
+        number: held.number.checked_add(1)?,
+        theirs: held.theirs.checked_sub(payment.amount).unwrap_or(proposed.theirs),
+        ins: proposed.ins.clone(),
+        ..held.clone()
+    };
+    (*others == held.ins && offer == *proposed).then_some(*payment)
+}
+
+/// The first of `held` that isn't what `proposed` has at its place.
+fn first_other(held: &[Payment], proposed: &[Payment]) -> Option<Payment> {
+    let place = (0..held.len()).find(|place| proposed.get(*place) != held.get(*place))?;
+    Some(held[place])
 }
 
 #[cfg(test)]
@@ -215,28 +234,116 @@ mod tests {
         assert_eq!(apply(&last, Change::Offered, &payment(9, 201)), Err(NOT_COVERED));
     }
 
+    /// What is recognised in the exact result of `change`.
+    fn recognised(held: &Sheet, change: Change, payment: &Payment) -> Option<(Change, Payment)> {
+        recognise(held, &apply(held, change, payment).unwrap())
+    }
+
     #[test]
-    fn a_neighbours_changes_are_recognised_by_whatever_account() {
-        let recognised = |change, payment: Payment| {
-            let mut proposed = apply(&held(), change, &payment).unwrap();
-            proposed.account = 5;
-            recognise(&held(), &proposed)
-        };
+    fn a_neighbours_changes_are_recognised() {
         let offered = payment(4, 200);
-        assert_eq!(recognised(Change::Offered, offered), Some((Change::Offered, offered)));
+        let expected = Some((Change::Offered, offered));
+        assert_eq!(recognised(&held(), Change::Offered, &offered), expected);
         for out in held().outs {
-            assert_eq!(recognised(Change::Returned, out), Some((Change::Returned, out)));
+            let expected = Some((Change::Returned, out));
+            assert_eq!(recognised(&held(), Change::Returned, &out), expected);
         }
         for payment in held().ins {
-            assert_eq!(recognised(Change::Getting, payment), Some((Change::Getting, payment)));
+            let expected = Some((Change::Getting, payment));
+            assert_eq!(recognised(&held(), Change::Getting, &payment), expected);
         }
+    }
+
+    #[test]
+    fn not_with_another_account() {
+        for (change, lock) in [(Change::Offered, 9), (Change::Returned, 3), (Change::Getting, 3)] {
+            let proposed = apply(&held(), change, &payment(lock, 1)).unwrap();
+            assert!(recognise(&held(), &proposed).is_some(), "{change:?}");
+            let elsewhere = Sheet { account: 5, ..proposed };
+            assert_eq!(recognise(&held(), &elsewhere), None, "{change:?}");
+        }
+    }
+
+    #[test]
+    fn an_offer_that_is_not_covered_is_one_with_any_theirs() {
+        for (lock, refusal) in [(9, NOT_COVERED), (2, LOCK_STANDS)] {
+            let offered = payment(lock, 201);
+            let ins = [&[offered][..], &held().ins].concat();
+            for theirs in [0, 1, 199, 200, 201, u32::MAX] {
+                let proposed = next(100, theirs, &ins, &held().outs);
+                let (change, payment) = recognise(&held(), &proposed).unwrap();
+                assert_eq!((change, payment), (Change::Offered, offered));
+                assert_eq!(apply(&held(), change, &payment), Err(refusal));
+                for other in [
+                    Sheet { account: 0, ..proposed.clone() },
+                    Sheet { number: 7, ..proposed.clone() },
+                    Sheet { number: 9, ..proposed.clone() },
+                    Sheet { own: 99, ..proposed.clone() },
+                    Sheet { outs: Vec::new(), ..proposed.clone() },
+                    Sheet { ins: vec![offered], ..proposed.clone() },
+                ] {
+                    assert_eq!(recognise(&held(), &other), None, "{other:?}");
+                }
+            }
+        }
+    }
+
+    #[test]
+    fn an_offer_whose_lock_stands_is_one_with_the_right_theirs() {
+        let offered = payment(2, 50);
+        let ins = [&[offered][..], &held().ins].concat();
+        let proposed = next(100, 150, &ins, &held().outs);
+        assert_eq!(recognise(&held(), &proposed), Some((Change::Offered, offered)));
+        assert_eq!(apply(&held(), Change::Offered, &offered), Err(LOCK_STANDS));
+        for theirs in [0, 149, 151, 200] {
+            assert_eq!(recognise(&held(), &Sheet { theirs, ..proposed.clone() }), None);
+        }
+    }
+
+    #[test]
+    fn at_the_limit_nothing_is_recognised() {
+        let last = Sheet { number: u32::MAX, ..held() };
+        for number in [0, u32::MAX] {
+            for (change, lock) in
+                [(Change::Offered, 9), (Change::Returned, 3), (Change::Getting, 3)]
+            {
+                let proposed = apply(&held(), change, &payment(lock, 1)).unwrap();
+                assert_eq!(recognise(&last, &Sheet { number, ..proposed }), None, "{change:?}");
+            }
+            let ins = [&[payment(9, 201)][..], &held().ins].concat();
+            let proposed = Sheet { number, ..next(100, 0, &ins, &held().outs) };
+            assert_eq!(recognise(&last, &proposed), None);
+        }
+    }
+
+    #[test]
+    fn what_was_taken_off_is_the_first_with_its_lock() {
+        let twice = [payment(2, 22), payment(2, 23), payment(2, 23)];
+        let held = Sheet { ins: Vec::new(), outs: twice.to_vec(), ..held() };
+        let first = recognised(&held, Change::Returned, &twice[0]);
+        assert_eq!(first, Some((Change::Returned, twice[0])));
+        let second = next(123, 200, &[], &[twice[0], twice[2]]);
+        assert_eq!(recognise(&held, &second), None);
+        let same = Sheet { outs: vec![twice[1]; 3], ..held };
+        let taken = recognised(&same, Change::Returned, &twice[1]);
+        assert_eq!(taken, Some((Change::Returned, twice[1])));
+    }
+
+    #[test]
+    fn with_an_amount_of_0_paying_is_as_returned_and_giving_up_as_getting() {
+        let nothing = payment(3, 0);
+        let held = Sheet { ins: vec![nothing], outs: vec![nothing], ..held() };
+        let paid = recognised(&held, Change::Paying, &nothing);
+        assert_eq!(paid, Some((Change::Returned, nothing)));
+        let given_up = recognised(&held, Change::GivingUp, &nothing);
+        assert_eq!(given_up, Some((Change::Getting, nothing)));
+        assert_eq!(recognised(&held, Change::PassingOn, &payment(4, 0)), None);
     }
 
     #[test]
     fn the_nodes_own_changes_are_not() {
         for (change, lock) in [(Change::PassingOn, 9), (Change::Paying, 3), (Change::GivingUp, 3)] {
-            let proposed = apply(&held(), change, &payment(lock, 1)).unwrap();
-            assert_eq!(recognise(&held(), &proposed), None, "{change:?}");
+            assert_eq!(recognised(&held(), change, &payment(lock, 1)), None, "{change:?}");
         }
     }
 
@@ -250,6 +357,8 @@ mod tests {
         other_amount.ins[0].amount += 1;
         let mut other_end = offered.clone();
         other_end.ins[1].end += 1;
+        let mut at_the_end = offered.clone();
+        at_the_end.ins.rotate_left(1);
         let near = [
             Sheet { number: 9, ..offered.clone() },
             Sheet { own: 101, ..offered.clone() },
@@ -258,6 +367,7 @@ mod tests {
             swapped,
             other_amount,
             other_end,
+            at_the_end,
         ];
         for proposed in near {
             assert_eq!(recognise(&held(), &proposed), None, "{proposed:?}");

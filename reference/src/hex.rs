@@ -1,7 +1,8 @@
 //! Bytes as hexadecimal digits: small ones are written, either case is read.
 
 pub fn write(bytes: &[u8]) -> String {
-    bytes.iter().map(|byte| format!("{byte:02x}")).collect()
+    let digit = |value: u8| char::from(b"0123456789abcdef"[usize::from(value)]);
+    bytes.iter().flat_map(|byte| [digit(byte >> 4), digit(byte & 15)]).collect()
 }
 
 /// The bytes that `digits` stand for; none if their number is odd or one of them isn't a digit.

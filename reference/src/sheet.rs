@@ -24,10 +24,16 @@ pub struct Sheet {
 }
 
 impl Payment {
-    fn write(&self, bytes: &mut Vec<u8>) {
-        bytes.extend(self.lock);
-        bytes.extend(self.amount.to_be_bytes());
-        bytes.extend(self.end.to_be_bytes());
+    /// The payment's 40 bytes.
+    pub fn write(&self) -> Vec<u8> {
+        [&self.lock[..], &self.amount.to_be_bytes(), &self.end.to_be_bytes()].concat()
+    }
+
+    /// The payment that `bytes` are, with nothing after it.
+    pub fn read_whole(bytes: &[u8]) -> Option<Payment> {
+        let rest = &mut &*bytes;
+        let payment = Payment::read(rest)?;
+        rest.is_empty().then_some(payment)
     }
 
     fn read(rest: &mut &[u8]) -> Option<Payment> {
@@ -46,7 +52,7 @@ impl Sheet {
             assert!(payments.len() <= MOST);
             bytes.push(payments.len() as u8);
             for payment in payments {
-                payment.write(&mut bytes);
+                bytes.extend(payment.write());
             }
         }
         bytes
@@ -65,6 +71,12 @@ impl Sheet {
             outs: payments(rest)?,
         };
         Some((sheet, bytes.len() - rest.len()))
+    }
+
+    /// The sheet that `bytes` are, with nothing after it.
+    pub fn read_whole(bytes: &[u8]) -> Option<Sheet> {
+        let (sheet, used) = Sheet::read(bytes)?;
+        (used == bytes.len()).then_some(sheet)
     }
 
     /// The same sheet in the neighbour's view.
@@ -140,8 +152,20 @@ mod tests {
         let mut bytes = example().write();
         let length = bytes.len();
         assert_eq!(Sheet::read(&bytes), Some((example(), length)));
+        assert_eq!(Sheet::read_whole(&bytes), Some(example()));
         bytes.extend([1, 2, 3]);
         assert_eq!(Sheet::read(&bytes), Some((example(), length)));
+        assert_eq!(Sheet::read_whole(&bytes), None);
+    }
+
+    #[test]
+    fn a_payment_has_40_bytes() {
+        let payment = payment(0xaa, 5, 300);
+        let bytes = payment.write();
+        assert_eq!(bytes, [&[0xaa; 32][..], &[0, 0, 0, 5, 0, 0, 1, 44]].concat());
+        assert_eq!(Payment::read_whole(&bytes), Some(payment));
+        assert_eq!(Payment::read_whole(&bytes[..39]), None);
+        assert_eq!(Payment::read_whole(&[&bytes[..], &[0]].concat()), None);
     }
 
     #[test]
