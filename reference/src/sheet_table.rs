@@ -103,8 +103,7 @@ pub fn examples() -> Vec<Example> {
 /// A sheet of account 1 in digits.
 fn sheet(number: u32, own: u32, theirs: u32, ins: &[Short], outs: &[Short]) -> String {
     let payments = |short: &[Short]| short.iter().map(long).collect();
-    let sheet =
-        Sheet { account: 1, number, own, theirs, ins: payments(ins), outs: payments(outs) };
+    let sheet = Sheet { account: 1, number, own, theirs, ins: payments(ins), outs: payments(outs) };
     hex::write(&sheet.write())
 }
 
@@ -176,7 +175,8 @@ mod tests {
         .concat();
         let line = format!("change giving {held} {}", payment("01", "0000000300000065"));
         let known = Some(format!("sheet {given_up}"));
-        assert!(examples().iter().any(|example| example.case
-            == Case { line: line.clone().into(), known: known.clone() }));
+        assert!(examples().iter().any(
+            |example| example.case == Case { line: line.clone().into(), known: known.clone() }
+        ));
     }
 }

@@ -66,6 +66,13 @@ fn cut(text: &[u8], b: u8) -> Part<'_>
     }
 }
 
+// A text up to its first `b`, and what follows that: a line of a text, or a line without its comment.
+pub fn part_at(text: &[u8], b: u8) -> Part<'_>
+    ensures { λ r. ⌜ Cut b (now (text .entry)) (now (r .text)) (mapped now (r .rest)) ⌝ }
+{
+    cut(text, b)
+}
+
 // The first part of a word at its colons, and what follows that colon.
 pub fn next_part(word: &[u8]) -> Part<'_>
     ensures { λ r. ⌜ Cut colon (now (word .entry)) (now (r .text)) (mapped now (r .rest)) ⌝ }

@@ -89,7 +89,10 @@ fn main(rt: LibcRuntime) -> Result<(), AnyError> {
             Ok(())
         }
         Task::Usage => {
-            eprintln!(rt, "node: one argument, its folder: node FOLDER (node --help says more)")?;
+            eprintln!(
+                rt,
+                "node: one argument, its folder: node FOLDER (node --help says more)"
+            )?;
             Err("usage".into())
         }
     }
