@@ -101,7 +101,7 @@ impl Lines {
         match self.random.below(3) {
             0 => number.wrapping_add(1),
             1 => number.wrapping_sub(1),
-            _ => number ^ 1 << self.random.below(32),
+            _ => number ^ (1 << self.random.below(32)),
         }
     }
 
@@ -192,7 +192,8 @@ impl Lines {
             (payment.amount, payment.end) = (self.number(), self.number());
         }
         if !payments.is_empty() && self.random.chance(10) {
-            payment.lock = self.near(payments[self.place(payments.len())].lock);
+            let place = self.place(payments.len());
+            payment.lock = self.near(payments[place].lock);
         }
         let found = payments.iter().find(|other| other.lock == payment.lock).copied();
         let purse = match change {
