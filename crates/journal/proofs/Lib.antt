@@ -1,0 +1,4 @@
+pub mod Reaching
+pub mod Undoing
+pub mod One
+pub mod Many

@@ -1,0 +1,3 @@
+mod Ordered
+mod Holding
+pub mod Laws

@@ -1,0 +1,10 @@
+pub mod Sums
+pub mod Places
+pub mod Signings
+pub mod Keeps
+pub mod Money
+pub mod Whole
+pub mod Entries
+pub mod Theorems
+pub mod Replays
+pub mod Signs

@@ -1,0 +1,4 @@
+pub mod Acts
+pub mod Logs
+pub mod Records
+pub mod Outcomes

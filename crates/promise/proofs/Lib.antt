@@ -1,0 +1,3 @@
+pub mod Replays
+pub mod Follows
+pub mod Safe

@@ -1,0 +1,4 @@
+mod ByKind
+mod Turns
+mod Again
+mod Deposits

@@ -1,0 +1,4 @@
+pub mod Fits
+pub mod Takes
+pub mod Starts
+pub mod Theorems
