@@ -21,6 +21,7 @@ said=$(printf '616263\n' | ./helgumba digests 2>&1)
 [ "$said" = ba7816bf8f01cfea414140de5dae2223b00361a396177a9cb410ff61f20015ad ]
 check 'digests of "abc", with nothing built again' $?
 place=$(mktemp -d)
+cp crates/node/data/mill/terms "$place/"
 said=$(printf '0 03%064d\n' 7 | ./helgumba node "$place" 2>&1 | tr '\n' ' ')
 rm -rf "$place"
 [ "$said" = 'ready ok ' ]
