@@ -8,3 +8,4 @@ pub mod Entries
 pub mod Theorems
 pub mod Replays
 pub mod Signs
+pub mod Refused

@@ -4,3 +4,4 @@ pub mod Moves
 pub mod Records
 pub mod Exactly
 pub mod Example
+pub mod Refused

@@ -6,6 +6,7 @@ ghost use Rattle.moments.specs.Example.{GoesThroughOnce};
 ghost use Rattle.moments.specs.Moments.{NeverLess, NoLockTwice, NotAgain, OwnNumber, PaidKnown, PassedOnPays, PassedOnce, TotalKept, TwoAtMost};
 ghost use Rattle.moments.specs.Moves.{RunsAreMoves};
 ghost use Rattle.moments.specs.Records.{CutOff, StandsBy};
+ghost use Rattle.moments.specs.Refused.{RefusedUnchanged};
 
 // The theorem that at most two sheets of an account may count, the held one and the next after it,
 // and that they have the account's own number.
@@ -72,6 +73,13 @@ pub fn moves_stand() -> u8
 // The theorem that there is such a run: in one, a payment goes through.
 pub fn example_stands() -> u8
     ensures { λ _. ⌜ GoesThroughOnce ⌝ }
+{
+    0
+}
+
+// The theorem that what is refused, by whatever number, does nothing and changes nothing.
+pub fn refused_unchanged_stands() -> u8
+    ensures { λ _. ⌜ RefusedUnchanged ⌝ }
 {
     0
 }

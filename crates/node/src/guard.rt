@@ -8,7 +8,7 @@ use std::process;
 
 // The file that says who works with the folder.
 #[derive(Drop)]
-pub struct Guard {
+pub(crate) struct Guard {
     path: String,
 }
 
@@ -61,7 +61,7 @@ fn still_runs(rt: &LibcRuntime, text: &str) -> Result<bool, AnyError> {
 
 impl Guard {
     // Takes the folder, unless a program that still runs has it. What a killed program left behind is taken over.
-    pub fn take(rt: &LibcRuntime, folder: &str) -> Result<Guard, AnyError> {
+    pub(crate) fn take(rt: &LibcRuntime, folder: &str) -> Result<Guard, AnyError> {
         let heap = rt.alloc();
         if let Err(e) = fs::read_dir(rt, folder) {
             eprintln!(rt, "node: can't open the folder {folder}: {e}")?;
@@ -92,7 +92,7 @@ impl Guard {
     }
 
     // The folder is free again.
-    pub fn release(self, rt: &LibcRuntime) {
+    pub(crate) fn release(self, rt: &LibcRuntime) {
         let _ = fs::remove_file(rt, self.path.as_str());
     }
 }

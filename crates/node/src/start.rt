@@ -193,7 +193,7 @@ fn opened(
 }
 
 // The node from its folder, ready for lines.
-pub fn start(rt: &LibcRuntime, folder: &str) -> Result<(Node, Store), AnyError> {
+pub(crate) fn start(rt: &LibcRuntime, folder: &str) -> Result<(Node, Store), AnyError> {
     let agreed = agreed(rt, folder)?;
     let path = format!(rt.alloc(), "{folder}/accounts")?;
     let (node, store) = opened(rt, folder, path.as_str(), &agreed)?;

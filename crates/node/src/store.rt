@@ -11,25 +11,25 @@ use std::io::Write;
 
 // The open file, and the bytes of records that are not in it yet.
 #[derive(Drop)]
-pub struct Store {
+pub(crate) struct Store {
     file: File,
     pending: Vec<u8>,
 }
 
 impl Store {
-    pub fn new(heap: Global, file: File) -> Store {
+    pub(crate) fn new(heap: Global, file: File) -> Store {
         Store {
             file,
             pending: Vec::new(heap),
         }
     }
 
-    pub fn append(&mut self, record: &Record) -> Result<(), AllocError> {
+    pub(crate) fn append(&mut self, record: &Record) -> Result<(), AllocError> {
         push_record(&mut self.pending, record)
     }
 
     // What is pending is in the file, and outlasts a stop.
-    pub fn sync(&mut self) -> Result<(), AnyError> {
+    pub(crate) fn sync(&mut self) -> Result<(), AnyError> {
         self.file.write_all(self.pending.as_slice())?;
         self.pending.clear();
         self.file.sync_data()?;
@@ -37,14 +37,14 @@ impl Store {
     }
 
     // Length and contents outlast a stop: what an earlier program wrote too.
-    pub fn sync_all(&mut self) -> Result<(), AnyError> {
+    pub(crate) fn sync_all(&mut self) -> Result<(), AnyError> {
         self.file.write_all(self.pending.as_slice())?;
         self.pending.clear();
         self.file.sync_all()?;
         Ok(())
     }
 
-    pub fn cut_back(&mut self, length: u64) -> Result<(), AnyError> {
+    pub(crate) fn cut_back(&mut self, length: u64) -> Result<(), AnyError> {
         self.file.set_len(length)?;
         Ok(())
     }
@@ -66,7 +66,7 @@ impl Store {
     }
 
     // Carries out the acts in their order; what leaves the node is gathered in `out`, behind the sync before it.
-    pub fn carry_out(
+    pub(crate) fn carry_out(
         &mut self,
         heap: Global,
         acts: &[Act],
