@@ -2,3 +2,4 @@ mod ByKind
 mod Turns
 mod Again
 mod Deposits
+mod Endings

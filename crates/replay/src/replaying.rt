@@ -20,15 +20,16 @@ pub(crate) fn go_through(node: &mut Node, bytes: &[u8]) -> Result<Reached, Start
     let mut whole = 0;
     let mut others = false;
     for _turn in 0..bytes.len() {
-        match read_record(bytes, whole) {
-            Reading::Whole(got) => {
-                take_record(node, others, &got.record, whole)?;
-                others = others | !is_first(&got.record);
-                whole += got.used;
+        let reading = read_record(bytes, whole);
+        let Reading::Whole(got) = reading else {
+            if let Reading::Damaged = reading {
+                return Err(StartFault::Damaged { at: whole });
             }
-            Reading::Short => return Ok(Reached { whole, others }),
-            Reading::Damaged => return Err(StartFault::Damaged { at: whole }),
-        }
+            return Ok(Reached { whole, others });
+        };
+        take_record(node, others, &got.record, whole)?;
+        others = others | !is_first(&got.record);
+        whole += got.used;
     }
     Ok(Reached { whole, others })
 }

@@ -10,6 +10,7 @@ use Rattle.node_state.specs.Nodes.{stateOf}
 use Rattle.journal.specs.Records.{wholeRecord, shortRecord, damagedRecord}
 use Rattle.journal.specs.Readings.{recordOf}
 use Rattle.replay.specs.Starts.{progressFrom, progressOf, GoneThrough}
+use Rattle.replay.proofs.Endings.{is-short}
 use Rattle.replay.proofs.Turns.{one-more, goes-on, not-taken}
 use Rattle.replay.proofs.replaying.go_through.Needs as need
 
@@ -28,10 +29,11 @@ returns-in-Break-take-record c =
       within = made-from-err (c .from-residual .result) _ (c .from-residual .ensures .0);
     }
 
-pub returns-in-Short : need.returns-in-Short
-returns-in-Short c =
+pub returns-in-rest : need.returns-in-rest
+returns-in-rest c =
     record {
-      value = sym (one-more (length (c .args .bytes .now)) (c .loop-turn .-turn) (c .loop-turn .whole) (c .args .bytes .now) (c .loop-turn .others) (stateOf (c .loop-turn .node)) _ shortRecord (c .loop-turn-test .taken) (c .loop-turn .inv .1) (c .in-Short .ensures tt .value));
+      value = sym (one-more (length (c .args .bytes .now)) (c .loop-turn .-turn) (c .loop-turn .whole) (c .args .bytes .now) (c .loop-turn .others) (stateOf (c .loop-turn .node)) _ shortRecord (c .loop-turn-test .taken) (c .loop-turn .inv .1)
+          (sym (is-short (c .read-record-reading .result) (c .in-rest .not-Whole) (c .in-rest-reading .not-Damaged)) ∙ c .read-record-reading .ensures .value));
       within = c .loop-turn .inv .0;
     }
 
