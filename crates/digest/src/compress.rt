@@ -105,7 +105,7 @@ fn later_rounds(s: State, w: &mut [u32; 64], t: usize) -> State
 }
 
 // The hash value after one more block.
-pub fn compress(s: State, block: &[u8]) -> State
+pub(crate) fn compress(s: State, block: &[u8]) -> State
     requires { ⌜ length (now block) ≡ 64 ⌝ }
     ensures { λ r. ⌜ r ≡ compressed s (now (block .entry)) ⌝ }
 {
@@ -119,7 +119,7 @@ pub fn compress(s: State, block: &[u8]) -> State
 }
 
 // The hash value after all whole blocks of `bytes`.
-pub fn absorb(mut s: State, bytes: &[u8]) -> State
+pub(crate) fn absorb(mut s: State, bytes: &[u8]) -> State
     ensures { λ r. ⌜ r ≡ absorbed (length (now (bytes .entry)) / 64) s (now (bytes .entry)) ⌝ }
 {
     for i in 0..bytes.len() / 64 {

@@ -72,7 +72,7 @@ const ROUND_CONSTANTS: [u32; 64] = [
 ];
 
 // K_t, for round t.
-pub fn constant(t: usize) -> u32
+pub(crate) fn constant(t: usize) -> u32
     requires { ⌜ t < 64 ⌝ }
     ensures { λ r. ⌜ r ≡ getD constants t 0 ⌝ }
 {

@@ -31,7 +31,7 @@ fn write_end(last: &mut [u8; 128], rest: &[u8], size: usize) -> usize
 }
 
 // The last hash value of a message, from the hash value s after its whole blocks.
-pub fn finish(s: State, message: &[u8]) -> State
+pub(crate) fn finish(s: State, message: &[u8]) -> State
     requires { ⌜ s ≡ absorbed (length (now message) / 64) start (now message) ⌝ }
     ensures { λ r. ⌜ r ≡ hashed (now (message .entry)) ⌝ }
 {
@@ -42,7 +42,7 @@ pub fn finish(s: State, message: &[u8]) -> State
 }
 
 // A key as the only block of its padded message: 32 bytes, the bit 1, and 256 as the length in bits.
-pub fn key_block(key: &[u8; 32]) -> [u8; 64]
+pub(crate) fn key_block(key: &[u8; 32]) -> [u8; 64]
     ensures value { λ r. ⌜ r ≡ padded (now (key .entry)) ⌝ }
     ensures alone { λ r. ⌜ compressed start r ≡ hashed (now (key .entry)) ⌝ }
 {

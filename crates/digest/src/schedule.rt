@@ -7,7 +7,7 @@ use crate::words::small_sigma0;
 use crate::words::small_sigma1;
 
 // Word t of the block, its high byte first.
-pub fn word(block: &[u8], t: usize) -> u32
+pub(crate) fn word(block: &[u8], t: usize) -> u32
     requires whole { ⌜ length (now block) ≡ 64 ⌝ }
     requires within { ⌜ t < 16 ⌝ }
     ensures { λ r. ⌜ r ≡ wordOf (now (block .entry)) t ⌝ }
@@ -21,7 +21,7 @@ pub fn word(block: &[u8], t: usize) -> u32
 }
 
 // The word that follows the first t.
-pub fn next_word(w: &[u32; 64], t: usize) -> u32
+pub(crate) fn next_word(w: &[u32; 64], t: usize) -> u32
     requires { ⌜ 16 ≤ t ⌝ ∗ ⌜ t < 64 ⌝ }
     ensures { λ r. ⌜ r ≡ nextWord (now (w .entry)) t ⌝ }
 {

@@ -30,7 +30,7 @@ impl State {
     };
 
     // The digest that a hash value stands for.
-    pub fn to_bytes(self) -> [u8; 32]
+    pub(crate) fn to_bytes(self) -> [u8; 32]
         ensures { λ r. ⌜ r ≡ bytesOf self ⌝ }
     {
         let mut out = [0u8; 32];
