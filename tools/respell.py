@@ -137,8 +137,9 @@ def main():
             else:
                 # comments name definitions too
                 at = line.find("//")
-                if at >= 0 and '"' not in line[:at]:
-                    comment = re.sub(r"\b(" + "|".join(re.escape(n) for n in table if "-" not in n) + r")\b", lambda m: table[m.group(1)], line[at:])
+                words = [n for n in table if "-" not in n]
+                if words and at >= 0 and '"' not in line[:at]:
+                    comment = re.sub(r"\b(" + "|".join(map(re.escape, words)) + r")\b", lambda m: table[m.group(1)], line[at:])
                     line = line[:at] + comment
                 out.append(line)
         new = "\n".join(out)
@@ -151,7 +152,7 @@ def main():
         open(p, "w", encoding="utf-8").write(text)
     print("used -> Uses (a fact of journal)")
     for n in sorted(table):
-        print(n, "->", table[n], "" if table[n] == wanted[n] else "(fell together)", "(names something in src/ too)" if table[n] in source else "", "(a type)" if n in type_valued else "")
+        print(n, "->", table[n], "" if table[n] == wanted.get(n, table[n]) else "(fell together)", "(names something in src/ too)" if table[n] in source else "", "(a type)" if n in type_valued else "")
 
 
 if __name__ == "__main__":

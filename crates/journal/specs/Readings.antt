@@ -19,7 +19,7 @@ outcome Short = short_record
 outcome Damaged = damaged_record
 
 -- A fact of how many bytes a whole record took.
-abbrev pub used : Reading → (ℕ → Type 0) → Type 0
-used (Whole got) P = P got.used
-used Short P = Unit {0}
-used Damaged P = Unit {0}
+abbrev pub Uses : Reading → (ℕ → Type 0) → Type 0
+Uses (Whole got) P = P got.used
+Uses Short P = Unit {0}
+Uses Damaged P = Unit {0}

@@ -1,7 +1,7 @@
 // Reading records: one at a place, and how far the whole ones reach.
 ghost use Rattle.std.specs.Prelude.{◌≡◌, ◌+◌, ◌-◌, ◌<◌, ◌≤◌, length, take, drop, if◌then◌else◌, MatchResult, slice_index};
 ghost use Rattle.journal.specs.Records.{signed_record, both_record, overfull, sheet_after, passed_after, key_after, record_read, whole_part};
-ghost use Rattle.journal.specs.Readings.{outcome, used};
+ghost use Rattle.journal.specs.Readings.{outcome, Uses};
 
 use crate::types::{Reading, Record, RecordRead};
 use sheet_bytes::read_sheet;
@@ -29,8 +29,8 @@ fn is_overfull(rest: &[u8]) -> bool
 // Reads a record with a sheet, past its first byte.
 fn read_sheet_after(rest: &[u8], both: bool) -> Reading
     ensures value { outcome result ≡ sheet_after (if both then both_record else signed_record) rest.now }
-    ensures within { used result (λ n. n ≤ 1 + length rest.now) }
-    ensures some { used result (λ n. 0 < n) }
+    ensures within { Uses result (λ n. n ≤ 1 + length rest.now) }
+    ensures some { Uses result (λ n. 0 < n) }
 {
     if is_overfull(rest) {
         return Reading::Damaged;
@@ -62,8 +62,8 @@ fn first_32(bytes: &[u8]) -> [u8; 32]
 // Reads a record with a lock passed on, past its first byte.
 fn read_passed_after(rest: &[u8]) -> Reading
     ensures value { outcome result ≡ passed_after rest.now }
-    ensures within { used result (λ n. n ≤ 1 + length rest.now) }
-    ensures some { used result (λ n. 0 < n) }
+    ensures within { Uses result (λ n. n ≤ 1 + length rest.now) }
+    ensures some { Uses result (λ n. 0 < n) }
 {
     if rest.len() < 34 {
         return Reading::Short;
@@ -78,8 +78,8 @@ fn read_passed_after(rest: &[u8]) -> Reading
 // Reads a record with a key, past its first byte.
 fn read_key_after(rest: &[u8]) -> Reading
     ensures value { outcome result ≡ key_after rest.now }
-    ensures within { used result (λ n. n ≤ 1 + length rest.now) }
-    ensures some { used result (λ n. 0 < n) }
+    ensures within { Uses result (λ n. n ≤ 1 + length rest.now) }
+    ensures some { Uses result (λ n. 0 < n) }
 {
     if rest.len() < 32 {
         return Reading::Short;
@@ -101,8 +101,8 @@ fn rest_from(bytes: &[u8], at: usize) -> &[u8]
 // Reads the record that the bytes begin with.
 fn read_first(bytes: &[u8]) -> Reading
     ensures value { outcome result ≡ record_read bytes.now }
-    ensures within { used result (λ n. n ≤ length bytes.now) }
-    ensures some { used result (λ n. 0 < n) }
+    ensures within { Uses result (λ n. n ≤ length bytes.now) }
+    ensures some { Uses result (λ n. 0 < n) }
 {
     if bytes.len() == 0 {
         return Reading::Short;
@@ -120,8 +120,8 @@ fn read_first(bytes: &[u8]) -> Reading
 // Reads the record at a place.
 pub fn read_record(bytes: &[u8], at: usize) -> Reading
     ensures value { outcome result ≡ record_read (drop at bytes.now) }
-    ensures within { used result (λ n. at + n ≤ length bytes.now) }
-    ensures some { used result (λ n. 0 < n) }
+    ensures within { Uses result (λ n. at + n ≤ length bytes.now) }
+    ensures some { Uses result (λ n. 0 < n) }
 {
     read_first(rest_from(bytes, at))
 }
