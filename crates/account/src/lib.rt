@@ -1,5 +1,7 @@
 // An account by value: each change takes the account and hands it back.
 // Promises: each answer is the one that specs/Accounts.antt defines. Leans on refusal and sheet.
+#![tactic(auto)]
+
 mod accounts;
 mod types;
 

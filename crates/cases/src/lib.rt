@@ -1,6 +1,8 @@
 // Cases of a node with two neighbours as rows of one table; examples/cases has the same rows as lines of the node program.
 // Promises: every row holds (specs/Table.antt), and its lines are the row (specs/Written.antt), computed by the checker.
 // Leans on the specs of promise and request.
+#![tactic(auto)]
+
 ghost use Rattle.cases.specs.Table.{CasesHold};
 ghost use Rattle.cases.specs.Written.{LinesAreRows};
 

@@ -1,6 +1,8 @@
 // The six changes: what the next sheet is, or the refusal. Leans on refusal and sheet.
 // Promises: each answer is the one that specs/Changes.antt defines; that is the sheet that follows by the rules
 // (specs/Follows.antt), its total is the same, and a refusal is the lowest that applies (specs/Reasons.antt).
+#![tactic(auto)]
+
 ghost use Rattle.std.specs.Prelude.{◌≡◌};
 ghost use Rattle.sheet.specs.Contents.{content_of};
 ghost use Rattle.change.specs.Changes.{changed, on_content};

@@ -1,5 +1,7 @@
 // The node's clock: the tick of its last look.
 // Promises: a look sets the clock of every account, and one at an earlier tick is refused (specs/Clocks.antt). Leans on node_state.
+#![tactic(auto)]
+
 ghost use Rattle.std.specs.Prelude.{◌≡◌, map, Result};
 ghost use Rattle.account.specs.Accounts.{standing_of};
 ghost use Rattle.node_state.specs.Nodes.{NodeState, state_of, with_accounts};

@@ -1,4 +1,6 @@
 // The least that a node can come out with: reads a node's file, and prints its sheets and the least.
+#![tactic(auto)]
+
 use account::Next;
 use anyhow::anyhow;
 use counting::{Count, count, ins_total, outs_total};

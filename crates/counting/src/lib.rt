@@ -1,6 +1,8 @@
 // The least that a node can come out with, over all choices of held or next for each account and all sets of keys shown.
 // Promises: no choice and no set of keys gives less, and one choice and one set give just that (specs/Outcomes.antt).
 // Leans on node_state, journal and the crates below them, and on the theorems of moments.
+#![tactic(auto)]
+
 ghost use Rattle.std.specs.Prelude.{◌≡◌, ℕ, ◌*◌, ◌≤◌, List, map, length, take, IfOk};
 ghost use Rattle.sheet.specs.Contents.{content_of};
 ghost use Rattle.change.specs.Totals.{amounts};

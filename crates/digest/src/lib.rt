@@ -1,5 +1,7 @@
 // SHA-256. `digest` and `lock` return what specs/Sha256.antt defines, FIPS 180-4 line by line, for every message;
 // neither allocates. Leans on the standard library only.
+#![tactic(auto)]
+
 ghost use Rattle.std.specs.Prelude.{◌≡◌};
 ghost use Rattle.digest.specs.Sha256.{sha256};
 ghost use Rattle.digest.specs.Vectors.{DigestOfAbc, DigestOfEmpty, DigestOfTwoBlocks, PaddingLeast};

@@ -1,4 +1,6 @@
 // SHA-256 of hexadecimal lines: for each line of standard input the digest of its bytes, or `no`.
+#![tactic(auto)]
+
 use anyhow::anyhow;
 use digest::{digest, lock};
 use lines::{hex_bytes, number, push_hex};

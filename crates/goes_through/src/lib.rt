@@ -2,6 +2,8 @@
 // Promises: in every world that can be reached, the lines by which a payment is passed on, paid and got are each answered
 // with Ok, and own has grown by the in and shrunk by the out; and worlds in which the node can carry a payment are reached.
 // Leans on moments and promise.
+#![tactic(auto)]
+
 ghost use Rattle.goes_through.specs.Willing.{GoesThrough};
 ghost use Rattle.goes_through.specs.Reached.{FromTheStart, IsReached};
 

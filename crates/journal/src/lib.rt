@@ -1,6 +1,8 @@
 // The records of a node's file: how they are written, and how they are read back.
 // Promises: the writer appends, and the reader reads, just the bytes of specs/Records.antt; wherever the file is cut,
 // its whole records are read back (specs/Theorems.antt). Leans on sheet, sheet_bytes and refusal.
+#![tactic(auto)]
+
 ghost use Rattle.journal.specs.Readings.{record_of};
 ghost use Rattle.journal.specs.Theorems.{GoodRecord, ReadBack, OneBack, OneWritten, OnlyWritten};
 

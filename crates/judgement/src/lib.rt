@@ -1,6 +1,8 @@
 // What the node would sign or hold for each entry, or why it refuses. Nothing is changed here.
 // Promises: each answer is the one that specs/Judgements.antt defines; of several refusals it is the one with the lowest
 // number. Leans on node_state, change and proposal.
+#![tactic(auto)]
+
 mod asks;
 mod calls;
 mod messages;

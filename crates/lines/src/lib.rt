@@ -1,5 +1,7 @@
 // Reads the text lines of our programs, and writes their numbers and hexadecimal. All is over bytes, and any bytes may come in.
 // Promises what specs/Lines.antt says of words, parts, numbers and hexadecimal; leans on std alone.
+#![tactic(auto)]
+
 ghost use Rattle.std.specs.Prelude.{◌≡◌, ◌+◌, ◌*◌, ◌%◌, ◌<◌, ◌≤◌, min, true, false, ◌++◌, length, drop, IfSome, IfOk, if◌then◌else◌, Some, None, vec_items, vec_len, vec_capacity, OnErr, OnOk, ◌==◌, nat_lt};
 ghost use Rattle.lines.specs.Lines.{seek, Cut, First, word_and_rest, space, colon};
 ghost use Rattle.lines.specs.Lines.{decimal, number_read, decimal_written};

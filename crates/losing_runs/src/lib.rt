@@ -1,6 +1,8 @@
 // Why the rules are as they are: for rules that go beyond a plain reading, a run in which a node without them loses.
 // Promises: by the run's events every account is settled, and the payouts together are less than the node put in; while the
 // node that keeps the rules has at least that. The checker computes each run. Leans on the specs of promise.
+#![tactic(auto)]
+
 ghost use Rattle.losing_runs.specs.Conduct.{SameWorld};
 ghost use Rattle.losing_runs.specs.Losses.{BackUnsyncedKept, BackUnsyncedLoses, GivenUpByHeldKept, GivenUpByHeldLoses, GivenUpByLastKept, GivenUpByLastLoses, NewFileUnlookedKept, NewFileUnlookedLoses, OpeningUnseenKept, OpeningUnseenLoses, PassedLateKept, PassedLateLoses, SheetFirstKept, SheetFirstLoses, SignedInDisputeKept, SignedInDisputeLoses, SignedUnlookedKept, SignedUnlookedLoses, StartUnsyncedKept, StartUnsyncedLoses};
 ghost use Rattle.losing_runs.specs.Numbers.{ShortGapLoses, ShortWindowLoses};

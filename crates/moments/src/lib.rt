@@ -1,6 +1,8 @@
 // Theorems about every run of a node: messages, calls, looks, and stops, also within a call. No code but their names.
 // Promises: what specs/Moments.antt, Moves.antt, Exactly.antt and Records.antt state holds after every list of events,
 // from any deposits. Runs are made of what the contracts of rules cite. Leans on the theorems of change and proposal.
+#![tactic(auto)]
+
 ghost use Rattle.moments.specs.Exactly.{Exactly};
 ghost use Rattle.moments.specs.Example.{GoesThroughOnce};
 ghost use Rattle.moments.specs.Moments.{NeverLess, NoLockTwice, NotAgain, OwnNumber, PaidKnown, PassedOnPays, PassedOnce, TotalKept, TwoAtMost};

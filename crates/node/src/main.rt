@@ -1,4 +1,6 @@
 // A node: reads messages and calls, one a line, and answers each by a line `ok` or `no N`.
+#![tactic(auto)]
+
 use anyhow::anyhow;
 use clock::tick;
 use node_state::Node;

@@ -1,4 +1,6 @@
 // A node: reads messages, calls and looks, one a line, and answers each by a line `ok` or `no N`.
+#![tactic(auto)]
+
 use anyhow::anyhow;
 use looking::{Lateness, lateness};
 use node_state::Node;

@@ -1,5 +1,7 @@
 // Drawings of what happened between some parties, as SVG documents. Leans on std alone.
 // Promises: what comes from outside is escaped just as specs/Escape.antt says; drawing is safe for any input, and ends.
+#![tactic(auto)]
+
 ghost use Rattle.picture.specs.Escape.{NoMarkup};
 
 mod drawing;

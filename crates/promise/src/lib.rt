@@ -1,6 +1,8 @@
 // The node, the register and time together: the world of a run, and what is promised of every run.
 // Promises: in every run of the world the node is that of a run by itself; and Main follows from three statements about
 // time. These three stand in specs/Main.antt and are not proved yet. Leans on looking, register and moments.
+#![tactic(auto)]
+
 ghost use Rattle.promise.specs.Main.{MainFollows};
 ghost use Rattle.promise.specs.Replay.{NodeAlone};
 

@@ -2,6 +2,8 @@
 // Promises: once every account is settled the node has at least what it put in, whatever all others do (Main); what that
 // rests on (NoOlder, DecidedEarly, InTime); and that in the world the node is a node by itself, and what its file says.
 // Leans on looking, register and moments.
+#![tactic(auto)]
+
 ghost use Rattle.promise_told.specs.Main.{Main, NoOlder, DecidedEarly, InTime};
 ghost use Rattle.promise_told.specs.Replay.{NodeAlone, FileTells};
 

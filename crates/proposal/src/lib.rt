@@ -1,6 +1,8 @@
 // Which change a proposed sheet is: a neighbour's offer, its return of an out, or its paying of an in.
 // Promises: the answer is the one that specs/Proposals.antt defines, and None says that no such change gives the
 // proposed sheet. Leans on refusal, sheet and change.
+#![tactic(auto)]
+
 ghost use Rattle.std.specs.Prelude.{◌≡◌};
 ghost use Rattle.sheet.specs.Contents.{content_of};
 ghost use Rattle.proposal.specs.Proposals.{proposal_of};

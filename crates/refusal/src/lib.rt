@@ -1,5 +1,7 @@
 // Why a message, a call or a look is turned away. Whoever is turned away is told one number, and nothing has changed.
 // Promises: each case has the number that the rules give it (specs/Number.antt). Leans on nothing.
+#![tactic(auto)]
+
 ghost use Rattle.std.specs.Prelude.{◌≡◌};
 ghost use Rattle.refusal.specs.Number.{number_of};
 

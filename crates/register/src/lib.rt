@@ -3,6 +3,8 @@
 // and none has a condition on its arguments. Of the rules themselves it promises the laws of specs/Laws.antt: what has
 // ended stays, `until` of a dispute stays and its number never falls, keys stay with their ticks, nothing changes the payout
 // of a settled account, and the two payouts are together all money on the sheet. Leans on sheet and digest.
+#![tactic(auto)]
+
 ghost use Rattle.register.specs.Laws.{EndedForGood, UntilStays, HigherShown, KeysStay, SettledForGood, StaysSettled, NothingLost};
 
 mod changes;

@@ -1,4 +1,6 @@
 // A rehearsal: plays a script of nodes, neighbours, the register and time, and tells what happens.
+#![tactic(auto)]
+
 use crate::cast::Cast;
 use anyhow::anyhow;
 use script::{ReadFault, Script, read_script};

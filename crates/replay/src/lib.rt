@@ -1,6 +1,8 @@
 // What a start makes of a node's file: the node that its records say, or where it is damaged.
 // Promises: a record is taken just where it fits (specs/Fits.antt), and makes of the node what it made when it was written
 // (specs/Takes.antt). Leans on journal, node_state, outcome and the crates below them.
+#![tactic(auto)]
+
 ghost use Rattle.std.specs.Prelude.{◌≡◌, ◌≤◌, length, IfOk};
 ghost use Rattle.node_state.specs.Nodes.{state_of};
 ghost use Rattle.replay.specs.Starts.{Started};

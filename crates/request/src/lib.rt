@@ -1,5 +1,7 @@
 // One line of the node's input: what is asked of it.
 // Promises: each line is read as specs/Requests.antt says, or refused. Leans on refusal, sheet_bytes, lines and the types of rules.
+#![tactic(auto)]
+
 ghost use Rattle.std.specs.Prelude.{◌≡◌, IfOk};
 ghost use Rattle.request.specs.Requests.{on_wish, request_of};
 

@@ -1,6 +1,8 @@
 // The rules of a node: what it answers to each message and call, what it records and sends, and in which order.
 // Promises: each entry is carried out as specs/Entries.antt says: answer, acts and the node after them; and where memory,
 // a write or a sync fails, a first part of the acts. Leans on judgement and outcome.
+#![tactic(auto)]
+
 ghost use Rattle.std.specs.Prelude.{◌≡◌};
 ghost use Rattle.node_state.specs.Nodes.{state_of};
 ghost use Rattle.outcome.specs.Outcomes.{CarriedOut};

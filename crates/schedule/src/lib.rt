@@ -1,6 +1,8 @@
 // The agreed numbers of a rehearsal, and when its nodes look.
 // Promises: numbers are made just where the rules allow them, else the first that is too small is told; a look is due, or
 // missed, as specs/Schedule.antt says; and whoever looks whenever it is due never misses one. Leans on nothing.
+#![tactic(auto)]
+
 ghost use Rattle.std.specs.Prelude.{◌≡◌, ◌+◌, is_ok, nat_le, nat_lt};
 ghost use Rattle.schedule.specs.Schedule.{values_of, agreed_of, NeverMissed};
 

@@ -1,5 +1,7 @@
 // Scripts of a rehearsal: who is in it, and what happens, line by line.
 // Promises: a text is read to the end or refused at a word, before anything is played. Leans on lines and schedule.
+#![tactic(auto)]
+
 mod commands;
 mod faults;
 mod forms;

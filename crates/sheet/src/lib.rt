@@ -1,5 +1,7 @@
 // Payments and sheets: the values that accounts, the file and the register are about.
 // Promises: each function does to a sheet's content (specs/Contents.antt) just what its contract says. Leans on nothing.
+#![tactic(auto)]
+
 ghost use Rattle.sheet.specs.Contents.{TurnedTwice};
 
 mod equals;

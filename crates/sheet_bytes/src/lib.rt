@@ -1,5 +1,7 @@
 // The bytes of payments and sheets, as messages and the file hold them. Leans on sheet and refusal.
 // Promises: bytes are written and read just as specs/Bytes.antt says, and what was written is read back (specs/Theorems.antt).
+#![tactic(auto)]
+
 ghost use Rattle.sheet.specs.Contents.{content_of};
 ghost use Rattle.sheet_bytes.specs.Theorems.{Good, ReadBack, RoundTrip, OnlyWritten, CutShort};
 

@@ -1,4 +1,6 @@
 // Sheets tried by hand: reads sheets in hexadecimal digits, turns them round, changes them and judges proposals.
+#![tactic(auto)]
+
 use anyhow::anyhow;
 use change::{Change, apply};
 use lines::{Word, hex_bytes, next_word, push_hex, push_number};

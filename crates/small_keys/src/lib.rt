@@ -1,5 +1,7 @@
 // Keys as small numbers, for scripts and tests.
 // Promises: key N is the 32 bytes that end with N, and its lock their SHA-256 (specs/Keys.antt). Leans on digest.
+#![tactic(auto)]
+
 ghost use Rattle.std.specs.Prelude.{◌≡◌};
 ghost use Rattle.small_keys.specs.Keys.{key_bytes, lock_bytes};
 

@@ -1,5 +1,7 @@
 // Draws the spring in which the one in the middle lost money, as an SVG document: what a node did that takes back a promise too early.
 // No such node stands in this repository, so what happened is a table here; `rehearse --picture` draws what the real node does.
+#![tactic(auto)]
+
 use picture::{Lane, Mark, Picture, Row, Total, draw};
 use std::alloc::{AllocError, Global};
 use std::io::Write;

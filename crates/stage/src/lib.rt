@@ -1,6 +1,8 @@
 // A rehearsal: up to four nodes that keep the rules, others that do what a script says, the register, and time.
 // Promises: the nodes are the proved ones, and a script is played to its end or the trouble is told. Leans on script,
 // register, looking, rules, plan, journal, replay and the crates below them.
+#![tactic(auto)]
+
 use crate::joint::{End, Joint};
 use crate::player::Player;
 use crate::world::World;

@@ -2,6 +2,8 @@
 // Promises: the answer, the acts in their order and the node afterwards (specs/Steps.antt); and that a node which came about
 // by a run of the world is afterwards one of that run and this event, so that what is promised of every run holds of it.
 // Leans on rules, looking and the world of promise.
+#![tactic(auto)]
+
 ghost use Rattle.node_state.specs.Nodes.{state_of};
 ghost use Rattle.step.specs.Starts.{OpenedBegins};
 ghost use Rattle.step.specs.Steps.{StepDone, Continues};

@@ -1,5 +1,7 @@
 // The terms of a node, as its owner writes them.
 // Promises: a text is read as specs/Reading.antt says, or what is wrong with it and where. Leans on lines.
+#![tactic(auto)]
+
 ghost use Rattle.std.specs.Prelude.{◌≡◌};
 ghost use Rattle.terms.specs.Reading.{terms_of, TermsHold};
 
