@@ -1,10 +1,12 @@
 -- Two payments, or the contents of two sheets, are the same if all their parts are.
-use Rattle.std.proofs.Common.{◌≡◌, Bool, ◌&&◌, List, Decides, sym, ap, ◌∙◌}
-use Rattle.std.specs.Cmp.Lexicographic.{Matches}
-use Rattle.std.proofs.lemmas.Slice.Eq.{slice_eq-Decides}
+use Rattle.std.proofs.Common.{◌≡◌, Bool, ◌&&◌, List, Decides, refl, true, sym, ap, ◌∙◌}
+use Rattle.std.specs.Bool.{one_answer}
+use Rattle.std.specs.Cmp.{IsPartialEquivalence}
+use Rattle.std.specs.Cmp.Lexicographic.{pointwise}
+use Rattle.std.proofs.lemmas.Slice.Eq.{slice_eq-Decides, bytes_eq-Decides}
 use Rattle.std.proofs.lemmas.Bool.Decides.{Decides-and, Decides-like, Decides-eqb}
 use Rattle.sheet.specs.declared.types.Payment.{Payment}
-use Rattle.sheet.specs.Contents.{Content}
+use Rattle.sheet.specs.Contents.{Content, payment_eq, content_eq}
 
 pub payment_decides : (a b : Payment) (x y z : Bool) → Decides x (a.lock ≡ b.lock) → Decides y (a.amount ≡ b.amount) → Decides z (a.end ≡ b.end) → Decides ((x && y) && z) (a ≡ b)
 payment_decides a b x y z dx dy dz =
@@ -25,6 +27,22 @@ module _ (a b : Content) where
       (λ e. (((((ap (λ s. s.account) e, ap (λ s. s.number) e), ap (λ s. s.own) e), ap (λ s. s.theirs) e), ap (λ s. s.ins) e), ap (λ s. s.outs) e))
       (Decides-and _ _ (Decides-and _ _ (Decides-and _ _ (Decides-and _ _ (Decides-and _ _ dk dn) do') dt) di) du)
 
+pub payment_eq_decides : (a b : Payment) → Decides (payment_eq a b) (a ≡ b)
+payment_eq_decides a b = payment_decides a b _ _ _ (bytes_eq-Decides a.lock b.lock) (Decides-eqb _ _) (Decides-eqb _ _)
+
 -- what == says of two slices, for the lists that they are known to hold
-pub lists_decide : (xs ys us vs : List Payment) (r : Bool) → xs ≡ us → ys ≡ vs → Matches (λ (p q : Payment) (t : Bool). Decides t (p ≡ q)) xs ys r → Decides r (us ≡ vs)
-lists_decide xs ys us vs r e f h = Decides-like r (λ g. sym e ∙ g ∙ f) (λ g. e ∙ g ∙ sym f) (slice_eq-Decides Decides-eqb xs ys r h)
+pub lists_decide : (xs ys us vs : List Payment) (r : Bool) → xs ≡ us → ys ≡ vs → r ≡ pointwise payment_eq xs ys → Decides r (us ≡ vs)
+lists_decide xs ys us vs r e f h = Decides-like r (λ g. sym e ∙ g ∙ f) (λ g. e ∙ g ∙ sym f) (slice_eq-Decides payment_eq_decides xs ys r h)
+
+pub content_eq_decides : (a b : Content) → Decides (content_eq a b) (a ≡ b)
+content_eq_decides a b =
+    content_decides a b _ _ _ _ _ _ (Decides-eqb _ _) (Decides-eqb _ _) (Decides-eqb _ _) (Decides-eqb _ _)
+    (lists_decide a.ins b.ins a.ins b.ins _ refl refl refl) (lists_decide a.outs b.outs a.outs b.outs _ refl refl refl)
+
+-- a test of being the same is symmetric and transitive
+pub same_laws : {K : Type 0} (E : K → K → Bool) → ((a b : K) → Decides (E a b) (a ≡ b)) → IsPartialEquivalence E
+same_laws E d =
+    record {
+      symm = λ x y. one_answer (E x y) (E y x) (d x y) (Decides-like _ (λ e. sym e) (λ e. sym e) (d y x));
+      trans = λ x y z e f. (d x z).1 ((d x y).0 e ∙ (d y z).0 f);
+    }

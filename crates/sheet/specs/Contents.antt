@@ -1,6 +1,7 @@
 -- What a sheet means: its numbers and two lists of payments, and how a payment is found, added and taken off.
 -- Assumes nothing.
-use Rattle.std.specs.Prelude.{◌≡◌, ℕ, Bool, cond, ◌&&◌, List, [], ◌∷◌, length, take, Some, None, Option, nat_le, nat_lt}
+use Rattle.std.specs.Prelude.{◌≡◌, ◌==◌, ℕ, Bool, cond, ◌&&◌, List, [], ◌∷◌, length, take, Some, None, Option, nat_le, nat_lt}
+use Rattle.std.specs.Cmp.Lexicographic.{pointwise}
 use Rattle.std.specs.Str.{bytes_eq}
 use Rattle.sheet.specs.declared.types.Payment.{Payment}
 use Rattle.sheet.specs.declared.types.Sheet.{Sheet}
@@ -22,6 +23,16 @@ content_of s =
 -- Is this the payment with that lock: locks are strings of 32 bytes.
 abbrev pub is_for : List ℕ → Payment → Bool
 is_for lock p = bytes_eq p.lock lock
+
+-- What == answers of two payments: is it one lock, one amount and one end.
+abbrev pub payment_eq : Payment → Payment → Bool
+payment_eq a b = (bytes_eq a.lock b.lock && (a.amount == b.amount)) && (a.end == b.end)
+
+-- What == answers of two sheets, by what they mean: are all numbers the same, and the ins and outs one by one.
+abbrev pub content_eq : Content → Content → Bool
+content_eq a b =
+    (((((a.account == b.account) && (a.number == b.number)) && (a.own == b.own)) && (a.theirs == b.theirs)) && pointwise payment_eq a.ins b.ins)
+      && pointwise payment_eq a.outs b.outs
 
 -- The payment with a lock: the first one, if there are more.
 abbrev pub found : List ℕ → List Payment → Option Payment

@@ -1,2 +1,3 @@
 pub mod Contents
 pub mod Places
+pub mod Laws

@@ -1,8 +1,10 @@
 // Equality of payments, and of sheets by what they mean.
 ghost use Rattle.std.specs.Prelude.{◌≡◌, Decides};
-ghost use Rattle.sheet.specs.Contents.{content_of};
 ghost use Rattle.std.specs.Cmp.Rules.{comparing};
-ghost use Rattle.std.proofs.Common.{rules, arith};
+ghost use Rattle.std.specs.Ordering.{on};
+ghost use Rattle.std.proofs.Common.{rules};
+ghost use Rattle.sheet.specs.Contents.{content_of, payment_eq, content_eq};
+ghost use Rattle.sheet.specs.Laws.{sheet_eq_laws};
 
 use crate::payments::same_lock;
 use crate::types::{Payment, Sheet};
@@ -25,22 +27,28 @@ fn same_content(a: &Sheet, b: &Sheet) -> bool
 }
 
 impl PartialEq for Payment {
-    ghost equals = { λ a b r. Decides r (a ≡ b) };
+    ghost eq = { payment_eq };
 
     ghost laws = { Prim.search (comparing, rules) };
 
-    fn eq(&self, other: &Payment) -> bool {
+    fn eq(&self, other: &Payment) -> bool
+        ensures value { result ≡ payment_eq self.now other.now }
+        ensures same { Decides result (self.now ≡ other.now) }
+    {
         same_payment(self, other)
     }
 }
 
 // Two sheets are equal if they mean the same, whatever stands past their counts.
 impl PartialEq for Sheet {
-    ghost equals = { λ a b r. Decides r (content_of a ≡ content_of b) };
+    ghost eq = { on content_of content_eq };
 
-    ghost laws = { first_of (Prim.search (comparing, rules), Prim.grind (arith, Self.row.coded.inj)) };
+    ghost laws = { sheet_eq_laws };
 
-    fn eq(&self, other: &Sheet) -> bool {
+    fn eq(&self, other: &Sheet) -> bool
+        ensures value { result ≡ content_eq (content_of self.now) (content_of other.now) }
+        ensures same { Decides result (content_of self.now ≡ content_of other.now) }
+    {
         same_content(self, other)
     }
 }

@@ -5,7 +5,7 @@ use Rattle.picture.proofs.escape.push_bytes.Goals as goal
 
 pub loop-b-preserved : goal.loop-b-preserved
 loop-b-preserved c = (
-    c.in-ok-push-byte.ensures ∙ ap (λ bs. bs ++ escaped_byte (get_or c.args.text.now c.loop-b.b-index 0)) c.loop-b.invariant
+    c.in_ok-push_byte.ensures ∙ ap (λ bs. bs ++ escaped_byte (get_or c.args.text.now c.loop-b.b-index 0)) c.loop-b.invariant
     ∙ flat_map_more escaped_byte (vec_items c.args.out.now) (take c.loop-b.b-index c.args.text.now) _
     ∙ ap (λ bs. vec_items c.args.out.now ++ escaped bs) (sym (take_more c.args.text.now c.loop-b.b-index 0 c.loop-b-test.true))
     )
