@@ -7,7 +7,7 @@ returns-in-None c = pair_none c.args.word.now _ c.loop-i.i c.loop-i.invariant.0 
 
 pub loop-i-preserved : goal.loop-i-preserved
 loop-i-preserved c = (
-  pair_more c.args.word.now _ c.loop-i.i c.loop-i.invariant.0 _ _ (omega arith) c.in-Some.ensures c.push-reserved.ensures.items,
+  pair_more c.args.word.now _ c.loop-i.i c.loop-i.invariant.0 _ _ (omega arith) c.in-Some.ensures c.push_reserved.ensures.items,
   omega arith,
   omega arith,
 )

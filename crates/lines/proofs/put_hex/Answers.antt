@@ -6,7 +6,7 @@ use Rattle.lines.proofs.put_hex.Goals as goal
 
 pub loop-b-preserved : goal.loop-b-preserved
 loop-b-preserved c = (
-  written_more (vec_items c.args.out.now) c.args.bytes.now _ _ _ c.loop-b.b-index _ _ c.loop-b-test.true c.loop-b.invariant.0 c.hex-code.ensures c.push-reserved.ensures.items c.hex-code-in-loop-b.ensures c.push-reserved-in-loop-b.ensures.items,
+  written_more (vec_items c.args.out.now) c.args.bytes.now _ _ _ c.loop-b.b-index _ _ c.loop-b-test.true c.loop-b.invariant.0 c.hex_code.ensures c.push_reserved.ensures.items c.hex_code-in-loop-b.ensures c.push_reserved-in-loop-b.ensures.items,
   omega arith,
   omega arith,
 )

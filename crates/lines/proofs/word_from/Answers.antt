@@ -15,15 +15,15 @@ word_of x o = Some (x, unwrap_or (option_map (λ x. x.now) o) [])
 pub returns-in-Some : goal.returns-in-Some
 returns-in-Some c =
     let line : List ℕ = c.args.line.now in
-    let x : List ℕ = c.cut_found.result.text.now in
-    let v = ap (word_of x) (sym c.in-Some.is) ∙ first_some line _ c.requires x _ c.if-start-line.false c.cut_found.ensures.value in
+    let x : List ℕ = c.cut-found.result.text.now in
+    let v = ap (word_of x) (sym c.in-Some.is) ∙ first_some line _ c.requires x _ c.if-start-line.false c.cut-found.ensures.value in
     let less : length c.in-Some.rest.now < length (take (length line - c.args.start) (drop c.args.start line)) =
-    subst (λ o. IfSome (option_map (λ x. x.now) o) (λ t. length t < length (take (length line - c.args.start) (drop c.args.start line)))) c.in-Some.is c.cut_found.ensures.shorter in
+    subst (λ o. IfSome (option_map (λ x. x.now) o) (λ t. length t < length (take (length line - c.args.start) (drop c.args.start line)))) c.in-Some.is c.cut-found.ensures.shorter in
     record { value = v; split = words_from line _ v; shorter = omega (arith, simp (length-take, length-drop) at less) }
 
 pub returns-in-None : goal.returns-in-None
 returns-in-None c =
     let line : List ℕ = c.args.line.now in
-    let x : List ℕ = c.cut_found.result.text.now in
-    let v = ap (word_of x) (sym c.in-None.is) ∙ first_some line _ c.requires x _ c.if-start-line.false c.cut_found.ensures.value in
+    let x : List ℕ = c.cut-found.result.text.now in
+    let v = ap (word_of x) (sym c.in-None.is) ∙ first_some line _ c.requires x _ c.if-start-line.false c.cut-found.ensures.value in
     record { value = v; split = words_from line _ v; shorter = omega arith }

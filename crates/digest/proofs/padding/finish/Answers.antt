@@ -8,9 +8,9 @@ use Rattle.digest.proofs.padding.finish.Goals as goal
 pub returns : goal.returns
 returns c =
     let m = c.args.message.now in
-    let end = c.write-end-end.result in
-    let z = take (end - 0) c.write-end-end.new.last in
+    let end = c.write_end-end.result in
+    let z = take (end - 0) c.write_end-end.new.last in
     c.absorb.ensures ∙ ap (λ s. absorbed (length z / 64) s z) c.requires
     ∙ hashed_end m (length m / 64) z refl
-    (ap (λ k. take k c.write-end-end.new.last) (sub-zero end) ∙ c.write-end-end.ensures.value
+    (ap (λ k. take k c.write_end-end.new.last) (sub-zero end) ∙ c.write_end-end.ensures.value
     ∙ ap (λ v. v ++ padding (length m)) (take_rest m (64 * (length m / 64))))

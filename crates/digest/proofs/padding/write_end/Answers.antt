@@ -7,7 +7,7 @@ returns c =
     record {
       within = omega arith;
       value =
-          end_written c.args.size c.end-after-end.result c.args.rest.now _ c.args.last.now _
-          c.requires.left c.end-after-end.ensures c.requires.zeros c.copy-from-slice.ensures.after
-          (c.copy-from-slice-2.ensures.after ∙ c.to-be-bytes.ensures);
+          end_written c.args.size c.end_after-end.result c.args.rest.now _ c.args.last.now _
+          c.requires.left c.end_after-end.ensures c.requires.zeros c.copy_from_slice.ensures.after
+          (c.copy_from_slice-2.ensures.after ∙ c.to_be_bytes.ensures);
     }

@@ -6,4 +6,4 @@ use Rattle.digest.proofs.state.put_word.Goals as goal
 pub returns : goal.returns
 returns c =
     put_mid-paste c.args.at _ c.args.out.now _ (bytes4 c.args.x) 4
-    (c.copy-from-slice.ensures.after ∙ c.to-be-bytes.ensures) (omega arith) refl
+    (c.copy_from_slice.ensures.after ∙ c.to_be_bytes.ensures) (omega arith) refl

@@ -5,12 +5,12 @@ pub returns : goal.returns
 unfolding bytes_of
 returns c =
     rw (
-      c.put-word-8.ensures,
-      c.put-word-7.ensures,
-      c.put-word-6.ensures,
-      c.put-word-5.ensures,
-      c.put-word-4.ensures,
-      c.put-word-3.ensures,
-      c.put-word-2.ensures,
-      c.put-word.ensures,
+      c.put_word-8.ensures,
+      c.put_word-7.ensures,
+      c.put_word-6.ensures,
+      c.put_word-5.ensures,
+      c.put_word-4.ensures,
+      c.put_word-3.ensures,
+      c.put_word-2.ensures,
+      c.put_word.ensures,
     )
