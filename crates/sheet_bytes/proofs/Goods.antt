@@ -35,9 +35,9 @@ payment_good p vs h =
 few : (n : ℕ) (ps : List Payment) → n ≤ 32 → length (take n ps) ≤ 32
 few n ps h = simp length-take (omega arith)
 
-firsts : (n : ℕ) (ps : List Payment) (vs : List Val) → shadow (each Payment (row payments.the_type).own ps vs) → All GoodPayment (take n ps)
+firsts : (n : ℕ) (ps : List Payment) (vs : List Val) → shadow (each Payment (row payments.the_type).own_val ps vs) → All GoodPayment (take n ps)
 firsts n ps vs h =
-    All-take GoodPayment n ps (all_known (row payments.the_type).own GoodPayment (λ p v k. payment_good p (v ∷ []) k) ps vs h)
+    All-take GoodPayment n ps (all_known (row payments.the_type).own_val GoodPayment (λ p v k. payment_good p (v ∷ []) k) ps vs h)
 
 pub sheet_good : (s : Sheet) (vs : List Val) → Is (row sheets.the_type) s vs → Good (content_of s)
 sheet_good s vs h =

@@ -6,7 +6,7 @@ use Rattle.register.proofs.payouts.amounts_if.Goals as goal
 pub loop-p-preserved : goal.loop-p-preserved
 loop-p-preserved c =
     summed_more (shown_is c.args.shown c.args.last (keys_of c.args.keys.now)) c.args.list.now c.loop-p.p-index c.loop-p.sum _ _ c.loop-p-test.true
-    c.amount-if-sum.ensures.value c.amount-if-sum.ensures.bound c.loop-p.invariant
+    c.amount_if-sum.ensures.value c.amount_if-sum.ensures.bound c.loop-p.invariant
 
 pub returns : goal.returns
 returns c =

@@ -5,4 +5,4 @@ use Rattle.sheet_bytes.proofs.sheets.put_head.Goals as goal
 pub returns : goal.returns
 unfolding head_bytes
 returns c =
-    put_then _ _ _ _ (put_then _ _ _ _ (put_then _ _ _ _ c.put-bytes.ensures c.put-number.ensures) c.put-number-2.ensures) c.put-number-3.ensures
+    put_then _ _ _ _ (put_then _ _ _ _ (put_then _ _ _ _ c.put_bytes.ensures c.put_number.ensures) c.put_number-2.ensures) c.put_number-3.ensures

@@ -4,4 +4,4 @@ use Rattle.sheet_bytes.proofs.sheets.put_sheet.Goals as goal
 
 pub returns : goal.returns
 returns c =
-    put_sheet (content_of c.args.sheet.now) _ _ _ _ _ c.ins.ensures.value c.outs.ensures.value c.put-head.ensures c.put-list.ensures c.put-list-2.ensures
+    put_sheet (content_of c.args.sheet.now) _ _ _ _ _ c.ins.ensures.value c.outs.ensures.value c.put_head.ensures c.put_list.ensures c.put_list-2.ensures
