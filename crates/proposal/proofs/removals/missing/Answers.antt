@@ -6,14 +6,14 @@ use Rattle.proposal.proofs.removals.missing.Goals as goal
 pub returns-then-i-proposed : goal.returns-then-i-proposed
 returns-then-i-proposed c = sym (at_one c.args.held.now c.args.proposed.now c.loop-i.i _ c.loop-i-test.true c.if-i-proposed.true) ∙ c.loop-i.invariant
 
-pub returns-then-not-same-payment : goal.returns-then-not-same-payment
-returns-then-not-same-payment c =
-    sym (at_both c.args.held.now c.args.proposed.now c.loop-i.i _ _ c.loop-i-test.true c.if-i-proposed.false ∙ cond-false _ _ _ (sym c.if-not-same-payment.ensures))
+pub returns-then-not-same_payment : goal.returns-then-not-same_payment
+returns-then-not-same_payment c =
+    sym (at_both c.args.held.now c.args.proposed.now c.loop-i.i _ _ c.loop-i-test.true c.if-i-proposed.false ∙ cond-false _ _ _ (sym c.if-not-same_payment.ensures))
     ∙ c.loop-i.invariant
 
 pub loop-i-preserved : goal.loop-i-preserved
 loop-i-preserved c =
-    sym (at_both c.args.held.now c.args.proposed.now c.loop-i.i _ _ c.loop-i-test.true c.if-i-proposed.false ∙ cond-true _ _ _ (sym c.if-not-same-payment.ensures))
+    sym (at_both c.args.held.now c.args.proposed.now c.loop-i.i _ _ c.loop-i-test.true c.if-i-proposed.false ∙ cond-true _ _ _ (sym c.if-not-same_payment.ensures))
     ∙ c.loop-i.invariant
 
 pub returns : goal.returns
