@@ -15,4 +15,4 @@ all_known f P one (x ∷ xs) (v ∷ vs) h = (one x v h.0, all_known f P one xs v
 
 pub returns : goal.returns
 returns c =
-    record { long = c.well-formed.0.1.0.1; all = all_known (UInt w8).own_val (λ b. b < 256) (λ b v k. k.1) c.args.bytes _ c.well-formed.0.1.1 }
+    record { long = c.well_formed.0.1.0.1; all = all_known (UInt w8).own_val (λ b. b < 256) (λ b v k. k.1) c.args.bytes _ c.well_formed.0.1.1 }

@@ -10,14 +10,14 @@ loop-turn-init c = (omega arith, ap (λ k. reach_from k c.args.bytes.now 0) (sub
 
 pub returns-in-Short : goal.returns-in-Short
 returns-in-Short c =
-    record { value = reach_more (length c.args.bytes.now) c.loop-turn.-turn c.loop-turn.at c.args.bytes.now _ short_record (omega arith) c.loop-turn.invariant.1 c.in-Short.ensures.value; within = c.loop-turn.invariant.0 }
+    record { value = reach_more (length c.args.bytes.now) c.loop-turn._turn c.loop-turn.at c.args.bytes.now _ short_record (omega arith) c.loop-turn.invariant.1 c.in-Short.ensures.value; within = c.loop-turn.invariant.0 }
 
 pub returns-in-Damaged : goal.returns-in-Damaged
 returns-in-Damaged c =
-    record { value = reach_more (length c.args.bytes.now) c.loop-turn.-turn c.loop-turn.at c.args.bytes.now _ damaged_record (omega arith) c.loop-turn.invariant.1 c.in-Damaged.ensures.value; within = c.loop-turn.invariant.0 }
+    record { value = reach_more (length c.args.bytes.now) c.loop-turn._turn c.loop-turn.at c.args.bytes.now _ damaged_record (omega arith) c.loop-turn.invariant.1 c.in-Damaged.ensures.value; within = c.loop-turn.invariant.0 }
 
 pub loop-turn-preserved : goal.loop-turn-preserved
 loop-turn-preserved c = (
   c.in-Whole.ensures.within,
-  reach_more (length c.args.bytes.now) c.loop-turn.-turn c.loop-turn.at c.args.bytes.now _ _ (omega arith) c.loop-turn.invariant.1 c.in-Whole.ensures.value,
+  reach_more (length c.args.bytes.now) c.loop-turn._turn c.loop-turn.at c.args.bytes.now _ _ (omega arith) c.loop-turn.invariant.1 c.in-Whole.ensures.value,
 )
