@@ -1,29 +1,24 @@
 -- What buckets hold: of one taken out, after one is put back, and of empty ones.
-use Rattle.std.proofs.Common.{◌≡◌, ℕ, zero, suc, ◌<◌, Bool, true, false, cond, eqb, List, [], ◌∷◌, set, is_ok, IfOk, Some, None, Ok, Err, Option, Result, Ordering, sym, refl, ap, ◌∙◌, subst, arith}
+use Rattle.std.proofs.Common.{◌≡◌, ℕ, zero, suc, Bool, true, false, cond, eqb, List, [], ◌∷◌, set, is_ok, IfOk, OnOk, OnErr, Some, None, Ok, Err, Option, Result, sym, refl, ap, ◌∙◌, arith}
 use mathlib.Core.Path.{fun_ext}
-use Rattle.std.proofs.StringKeys.Lists.{tied-text}
 use Rattle.std.proofs.lemmas.Slice.Eq.{bytes_eq-Decides}
-use Rattle.std.proofs.lemmas.Map.Contents.{btree-map-empty, btree-map-inserts}
 use Rattle.std.proofs.lemmas.Bool.{eqb-true, eqb-false, cond-false}
-use Rattle.std.proofs.lemmas.Bool.Decides.{same_from_decides, Decides-at}
-use Rattle.std.specs.BTreeMap.{get, IsOrdered, Inserts}
+use Rattle.std.proofs.lemmas.Bool.Decides.{same_from_decides}
+use Rattle.std.proofs.lemmas.Map.Text.{is_eq-slice_cmp}
+use Rattle.std.specs.BTreeMap.{BTreeMap, get, IsEmpty, IsUnchanged, Updates}
+use Rattle.std.specs.Cmp.Lexicographic.{slice_cmp}
 use Rattle.std.specs.List.{slice_get, AllByRecursion as All}
-use Rattle.std.specs.Map.{update}
-use Rattle.std.specs.Ordering.{eq_by_cmp, MatchOrdering, nat_cmp}
-use Rattle.std.specs.Cmp.Lexicographic.{Lex, bytes_decides, slice_cmp}
-use Rattle.std.specs.declared.alloc.AllocFailed.{AllocFailed}
-use Rattle.std.specs.BTreeMap.{BTreeMap}
+use Rattle.std.specs.Map.{lookup}
+use Rattle.std.specs.Ordering.{is_eq, nat_cmp}
 use Rattle.std.specs.Str.{bytes_eq}
 use Rattle.lockmap.specs.Buckets.{bucket_of, within, held}
 use Rattle.lockmap.specs.Maps.{with_at}
-use Rattle.lockmap.proofs.Ordered.{Bare}
 
--- the order that the locks are compared by
-abbrev pub Compares : List ℕ → List ℕ → Ordering → Type 0
-Compares = Lex (λ (x y : ℕ) (r : Ordering). MatchOrdering r (x < y) (x ≡ y) (y < x))
-
-tied_is : (l k : List ℕ) → eq_by_cmp (slice_cmp nat_cmp) l k ≡ bytes_eq l k
-tied_is l k = same_from_decides _ _ (Decides-at _ _ (tied-text l k) (bytes_decides l k)) (bytes_eq-Decides l k)
+-- that two locks are equal, as a bucket asks and as `with_at` does
+tied_is : (k l : List ℕ) → is_eq (slice_cmp nat_cmp k l) ≡ bytes_eq l k
+tied_is k l =
+    let there = bytes_eq-Decides k l in
+    is_eq-slice_cmp k l ∙ same_from_decides (bytes_eq k l) (bytes_eq l k) (λ e. sym (there.0 e), λ e. there.1 (sym e)) (bytes_eq-Decides l k)
 
 module _ {X : Type 0} where
   nth_set_same : (xs : List X) (i : ℕ) (x y : X) → slice_get xs i ≡ Some x → slice_get (set xs i y) i ≡ Some y
@@ -39,13 +34,13 @@ module _ {X : Type 0} where
   nth_set_other (w ∷ ws) (suc i) (suc j) y n = nth_set_other ws i j y (λ e. n (ap suc e))
 
 module _ {V : Type 0} where
-  pub held_bare : (bs : List (BTreeMap (List ℕ) V)) → All Bare bs → (l : List ℕ) → held bs l ≡ None
+  pub held_bare : (bs : List (BTreeMap (List ℕ) V)) → All IsEmpty bs → (l : List ℕ) → held bs l ≡ None
   unfolding held
   held_bare bs h l = go bs (bucket_of l) h
     where
-      go : (cs : List (BTreeMap (List ℕ) V)) (i : ℕ) → All Bare cs → within (slice_get cs i) l ≡ None
+      go : (cs : List (BTreeMap (List ℕ) V)) (i : ℕ) → All IsEmpty cs → within (slice_get cs i) l ≡ None
       go [] i k = refl
-      go (c ∷ cs) zero k = (btree-map-empty (slice_cmp nat_cmp) c k.0.0 k.0.1).1 l
+      go (c ∷ cs) zero k = ap (lookup (λ q. is_eq (slice_cmp nat_cmp l q))) k.0
       go (c ∷ cs) (suc i) k = go cs i k.1
 
   pub held_at : (bs : List (BTreeMap (List ℕ) V)) (i : ℕ) (b : BTreeMap (List ℕ) V) (l : List ℕ) → slice_get bs i ≡ Some b → i ≡ bucket_of l → held bs l ≡ get (slice_cmp nat_cmp) b l
@@ -57,14 +52,14 @@ module _ {V : Type 0} where
   held_set_other bs i n l e = ap (λ p. within p l) (nth_set_other bs i (bucket_of l) n e)
 
   -- a change of the bucket of k that changes it at most at k
-  held_set : (bs : List (BTreeMap (List ℕ) V)) (i : ℕ) (b n : BTreeMap (List ℕ) V) (k : List ℕ) (w : Option V) → slice_get bs i ≡ Some b → i ≡ bucket_of k → ((l : List ℕ) → get (slice_cmp nat_cmp) n l ≡ update (eq_by_cmp (slice_cmp nat_cmp)) (get (slice_cmp nat_cmp) b) k w l) → (l : List ℕ) → held (set bs i n) l ≡ update bytes_eq (held bs) k w l
+  held_set : (bs : List (BTreeMap (List ℕ) V)) (i : ℕ) (b n : BTreeMap (List ℕ) V) (k : List ℕ) (w : Option V) → slice_get bs i ≡ Some b → i ≡ bucket_of k → ((l : List ℕ) → get (slice_cmp nat_cmp) n l ≡ cond (is_eq (slice_cmp nat_cmp k l)) w (get (slice_cmp nat_cmp) b l)) → (l : List ℕ) → held (set bs i n) l ≡ cond (bytes_eq l k) w (held bs l)
   held_set bs i b n k w h e f l = go (eqb (bucket_of l) i) refl
     where
-      go : (t : Bool) → eqb (bucket_of l) i ≡ t → held (set bs i n) l ≡ update bytes_eq (held bs) k w l
+      go : (t : Bool) → eqb (bucket_of l) i ≡ t → held (set bs i n) l ≡ cond (bytes_eq l k) w (held bs l)
       go true p =
           let here : i ≡ bucket_of l = sym (eqb-true (bucket_of l) i p) in
           let was = sym (held_at bs i b l h here) in
-          held_at (set bs i n) i n l (nth_set_same bs i b n h) here ∙ (f l ∙ (λ j. cond (tied_is l k j) w (was j)))
+          held_at (set bs i n) i n l (nth_set_same bs i b n h) here ∙ (f l ∙ (λ j. cond (tied_is k l j) w (was j)))
       go false p =
           held_set_other bs i n l (eqb-false (bucket_of l) i p)
           ∙ sym (cond-false (bytes_eq l k) w (held bs l) (apart (bytes_eq l k) refl))
@@ -83,15 +78,15 @@ module _ {V : Type 0} where
           held_at (set bs i n) i n l (nth_set_same bs i b n h) here ∙ (f l ∙ sym (held_at bs i b l h here))
       go false p = held_set_other bs i n l (eqb-false (bucket_of l) i p)
 
-  pub held_inserted : (bs : List (BTreeMap (List ℕ) V)) (i : ℕ) (b n : BTreeMap (List ℕ) V) (k : List ℕ) (v : V) (r : Result (Option V) (AllocFailed (List ℕ × V))) → slice_get bs i ≡ Some b → i ≡ bucket_of k → IsOrdered (slice_cmp nat_cmp) b → Inserts Compares b n k v r → (l : List ℕ) → held (set bs i n) l ≡ cond (is_ok r) (with_at (held bs) k v l) (held bs l)
-  held_inserted bs i b n k v (Ok old) h e o g = held_set bs i b n k (Some v) h e (g.3 o).1
-  held_inserted bs i b n k v (Err y) h e o g = held_kept bs i b n h (btree-map-inserts (slice_cmp nat_cmp) b n k v (Err y) g o).1.1
+  pub held_inserted : {E : Type 0} (bs : List (BTreeMap (List ℕ) V)) (i : ℕ) (b n : BTreeMap (List ℕ) V) (k : List ℕ) (v : V) (r : Result (Option V) E) → slice_get bs i ≡ Some b → i ≡ bucket_of k → OnOk r (Updates (slice_cmp nat_cmp) b n k (Some v)) → OnErr r (IsUnchanged b n) → (l : List ℕ) → held (set bs i n) l ≡ cond (is_ok r) (with_at (held bs) k v l) (held bs l)
+  held_inserted bs i b n k v (Ok old) h e o g = held_set bs i b n k (Some v) h e o.0
+  held_inserted bs i b n k v (Err y) h e o g = held_kept bs i b n h (λ l. ap (lookup (λ q. is_eq (slice_cmp nat_cmp l q))) g)
 
   -- the same of the whole function
   pub held_after : (bs cs : List (BTreeMap (List ℕ) V)) (k : List ℕ) (v : V) (t : Bool) → ((l : List ℕ) → held cs l ≡ cond t (with_at (held bs) k v l) (held bs l)) → held cs ≡ cond t (with_at (held bs) k v) (held bs)
   held_after bs cs k v true h = fun_ext h
   held_after bs cs k v false h = fun_ext h
 
-  pub old_inserted : (bs : List (BTreeMap (List ℕ) V)) (i : ℕ) (b n : BTreeMap (List ℕ) V) (k : List ℕ) (v : V) (r : Result (Option V) (AllocFailed (List ℕ × V))) → slice_get bs i ≡ Some b → i ≡ bucket_of k → IsOrdered (slice_cmp nat_cmp) b → Inserts Compares b n k v r → IfOk r (λ old. old ≡ held bs k)
-  old_inserted bs i b n k v (Ok old) h e o g = g.2 o ∙ sym (held_at bs i b k h e)
-  old_inserted bs i b n k v (Err y) h e o g = tt
+  pub old_inserted : {E : Type 0} (bs : List (BTreeMap (List ℕ) V)) (i : ℕ) (b : BTreeMap (List ℕ) V) (k : List ℕ) (r : Result (Option V) E) → slice_get bs i ≡ Some b → i ≡ bucket_of k → IfOk r (λ old. old ≡ get (slice_cmp nat_cmp) b k) → IfOk r (λ old. old ≡ held bs k)
+  old_inserted bs i b k (Ok old) h e g = g ∙ sym (held_at bs i b k h e)
+  old_inserted bs i b k (Err y) h e g = tt

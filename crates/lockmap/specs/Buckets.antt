@@ -5,10 +5,9 @@
 --     within b l           what the bucket b, where there is one, has for the lock l
 --     held bs l            what the buckets bs have for the lock l
 use Rattle.std.specs.Prelude.{ℕ, ◌+◌, ◌*◌, ◌/◌, Bool, ◌&&◌, List, length, Some, None, Option, ◌==◌, slice_index}
-use Rattle.std.specs.BTreeMap.{keys, values, get}
+use Rattle.std.specs.BTreeMap.{BTreeMap, keys, values, get}
+use Rattle.std.specs.FinMap.{is_sorted}
 use Rattle.std.specs.List.{slice_get, list_all}
-use Rattle.std.specs.BTreeMap.{BTreeMap}
-use Rattle.std.specs.Map.Invariant.{is-strictly-sorted-by}
 use Rattle.std.specs.Ordering.{nat_cmp}
 use Rattle.std.specs.Cmp.Lexicographic.{slice_cmp}
 
@@ -18,7 +17,7 @@ bucket_of l = slice_index l 0 * 16 + slice_index l 1 / 16
 
 module _ {V : Type 0} where
   abbrev pub in_order : BTreeMap (List ℕ) V → Bool
-  in_order b = length (values b) == length (keys b) && is-strictly-sorted-by (λ x y. slice_cmp nat_cmp x y) (keys b)
+  in_order b = length (values b) == length (keys b) && is_sorted (slice_cmp nat_cmp) b.entries
 
   unfoldable pub all_in_order : List (BTreeMap (List ℕ) V) → Bool
   all_in_order bs = list_all in_order bs

@@ -1,7 +1,7 @@
-use Rattle.std.proofs.Common.{◌≡◌, vec_items, vec_len}
+use Rattle.std.proofs.Common.{◌≡◌, vec_len}
+use Rattle.std.specs.BTreeMap.{IsEmpty}
 use Rattle.std.specs.List.{AllByRecursion as All}
-use Rattle.lockmap.proofs.Ordered.{Bare}
 use Rattle.lockmap.proofs.buckets.empty.Given as goal
 
 abbrev pub invariant-loop-turn : goal.invariant-loop-turn
-invariant-loop-turn g l = (vec_len l.buckets ≡ l.-turn) × All Bare (vec_items l.buckets)
+invariant-loop-turn g l = (vec_len l.buckets ≡ l._turn) × All IsEmpty l.buckets.items
