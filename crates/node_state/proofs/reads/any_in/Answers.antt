@@ -1,15 +1,15 @@
 use Rattle.node_state.proofs.Anywhere.{found_here, passed_more, found_nowhere}
 use Rattle.node_state.proofs.reads.any_in.Goals as goal
 
-pub returns-then-has-in : goal.returns-then-has-in
-returns-then-has-in c =
+pub returns-then-has_in : goal.returns-then-has_in
+returns-then-has_in c =
     found_here (λ s. s.ins) c.args.accounts.now c.args.lock.now c.loop-account.account-index c.account-item.result
-    c.loop-account-test.true c.account-item.is c.if-has-in.ensures c.loop-account.invariant
+    c.loop-account-test.true c.account-item.is c.if-has_in.ensures c.loop-account.invariant
 
 pub loop-account-preserved : goal.loop-account-preserved
 loop-account-preserved c =
     passed_more (λ s. s.ins) c.args.accounts.now c.args.lock.now c.loop-account.account-index c.account-item.result
-    c.loop-account-test.true c.account-item.is c.if-has-in.ensures c.loop-account.invariant
+    c.loop-account-test.true c.account-item.is c.if-has_in.ensures c.loop-account.invariant
 
 pub returns : goal.returns
 returns c =
