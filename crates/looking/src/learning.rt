@@ -17,7 +17,7 @@ fn record_new<O: Outside>(
     outside: &mut O,
     statement: &Shown,
 ) -> Result<bool, Fault>
-    ensures { Recorded (state_of node.old) (log outside.old) (new_keys (state_of node.old) (statement.now ∷ [])) result (state_of node.new) (log outside.new) }
+    ensures { Recorded (state_of node.old) (O.log outside.old) (new_keys (state_of node.old) (statement.now ∷ [])) result (state_of node.new) (O.log outside.new) }
 {
     let key = match *statement {
         Shown::Key { key, .. } => key,
@@ -33,7 +33,7 @@ fn record_new<O: Outside>(
 
 // Each new key, in the order of the statements.
 fn record_all<O: Outside>(node: &mut Node, outside: &mut O, shown: &[Shown]) -> Result<bool, Fault>
-    ensures { Recorded (state_of node.old) (log outside.old) (new_keys (state_of node.old) shown.now) result (state_of node.new) (log outside.new) }
+    ensures { Recorded (state_of node.old) (O.log outside.old) (new_keys (state_of node.old) shown.now) result (state_of node.new) (O.log outside.new) }
 {
     let mut some = false;
     for statement in shown {
@@ -44,7 +44,7 @@ fn record_all<O: Outside>(node: &mut Node, outside: &mut O, shown: &[Shown]) -> 
 }
 
 fn sync_if<O: Outside>(outside: &mut O, applies: bool) -> Result<(), Fault>
-    ensures { Did (log outside.old) (if applies then synced ∷ [] else []) result (log outside.new) }
+    ensures { Did (O.log outside.old) (if applies then synced ∷ [] else []) result (O.log outside.new) }
 {
     if applies {
         outside.sync()?;
@@ -58,7 +58,7 @@ pub(crate) fn learn<O: Outside>(
     outside: &mut O,
     shown: &[Shown],
 ) -> Result<(), Fault>
-    ensures { Became (state_of node.old) (log outside.old) (learning (state_of node.old) shown.now) result (state_of node.new) (log outside.new) }
+    ensures { Became (state_of node.old) (O.log outside.old) (learning (state_of node.old) shown.now) result (state_of node.new) (O.log outside.new) }
 {
     let some = record_all(node, outside, shown)?;
     sync_if(outside, some)?;

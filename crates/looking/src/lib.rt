@@ -31,7 +31,7 @@ fn take<O: Outside>(
     tick: u32,
     shown: &[Shown],
 ) -> Result<(), Fault>
-    ensures { Taken (state_of node.old) tick shown.now (log outside.old) result (state_of node.new) (log outside.new) }
+    ensures { Taken (state_of node.old) tick shown.now (O.log outside.old) result (state_of node.new) (O.log outside.new) }
 {
     learning::learn(node, outside, shown)?;
     showing::show_all(node, outside, tick, shown)?;
@@ -46,7 +46,7 @@ pub fn look<O: Outside>(
     tick: u32,
     shown: &[Shown],
 ) -> Result<Result<(), Refusal>, Fault>
-    ensures { LookedOut (state_of node.old) tick shown.now (log outside.old) result (state_of node.new) (log outside.new) }
+    ensures { LookedOut (state_of node.old) tick shown.now (O.log outside.old) result (state_of node.new) (O.log outside.new) }
 {
     if ticks::is_earlier(node, tick) {
         return Ok(Err(Refusal::Unreadable));

@@ -19,7 +19,7 @@ fn show_sheet<O: Outside>(
     sheet: &Sheet,
     applies: bool,
 ) -> Result<(), Fault>
-    ensures { Did (log outside.old) (if applies then shown_sheet i (content_of sheet.now) ∷ [] else []) result (log outside.new) }
+    ensures { Did (O.log outside.old) (if applies then shown_sheet i (content_of sheet.now) ∷ [] else []) result (O.log outside.new) }
 {
     if applies {
         outside.show_sheet(i, sheet)?;
@@ -28,7 +28,7 @@ fn show_sheet<O: Outside>(
 }
 
 fn show_keys<O: Outside>(outside: &mut O, i: usize, keys: &[[u8; 32]]) -> Result<(), Fault>
-    ensures { Did (log outside.old) (map (shown_key i) keys.now) result (log outside.new) }
+    ensures { Did (O.log outside.old) (map (shown_key i) keys.now) result (O.log outside.new) }
 {
     for key in keys {
         outside.show_key(i, key)?;
@@ -44,7 +44,7 @@ fn show_in<O: Outside>(
     i: usize,
     shown: &[Shown],
 ) -> Result<(), Fault>
-    ensures { Did (log outside.old) (showing (state_of node.now) tick shown.now i (account_at (state_of node.now) i)) result (log outside.new) }
+    ensures { Did (O.log outside.old) (showing (state_of node.now) tick shown.now i (account_at (state_of node.now) i)) result (O.log outside.new) }
 {
     let account = node.account(i);
     let applies = shows_held(&account, node.terms().delay, tick, i, shown);
@@ -61,7 +61,7 @@ pub(crate) fn show_all<O: Outside>(
     tick: u32,
     shown: &[Shown],
 ) -> Result<(), Fault>
-    ensures { Did (log outside.old) (showing_all (state_of node.now) tick shown.now 0 (state_of node.now).accounts) result (log outside.new) }
+    ensures { Did (O.log outside.old) (showing_all (state_of node.now) tick shown.now 0 (state_of node.now).accounts) result (O.log outside.new) }
 {
     for i in 0..node.many() {
         show_in(node, outside, tick, i, shown)?;

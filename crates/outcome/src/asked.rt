@@ -18,7 +18,7 @@ pub fn sign<O: Outside>(
     i: usize,
     next: Result<Sheet, Refusal>,
 ) -> Result<Result<(), Refusal>, Fault>
-    ensures { CarriedOut (signing i (on_content next)) (state_of node.old) (log outside.old) result (state_of node.new) (log outside.new) }
+    ensures { CarriedOut (signing i (on_content next)) (state_of node.old) (O.log outside.old) result (state_of node.new) (O.log outside.new) }
 {
     let sheet = match next {
         Ok(sheet) => sheet,
@@ -40,7 +40,7 @@ pub fn pass_on<O: Outside>(
     lock: &[u8; 32],
     next: Result<Sheet, Refusal>,
 ) -> Result<Result<(), Refusal>, Fault>
-    ensures { CarriedOut (passing from to lock.now (on_content next)) (state_of node.old) (log outside.old) result (state_of node.new) (log outside.new) }
+    ensures { CarriedOut (passing from to lock.now (on_content next)) (state_of node.old) (O.log outside.old) result (state_of node.new) (O.log outside.new) }
 {
     let sheet = match next {
         Ok(sheet) => sheet,

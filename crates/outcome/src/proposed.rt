@@ -18,7 +18,7 @@ pub fn accept<O: Outside>(
     i: usize,
     next: Result<Sheet, Refusal>,
 ) -> Result<Result<(), Refusal>, Fault>
-    ensures { CarriedOut (accepting i (on_content next)) (state_of node.old) (log outside.old) result (state_of node.new) (log outside.new) }
+    ensures { CarriedOut (accepting i (on_content next)) (state_of node.old) (O.log outside.old) result (state_of node.new) (O.log outside.new) }
 {
     let proposed = match next {
         Ok(proposed) => proposed,
@@ -38,7 +38,7 @@ pub fn accept_both<O: Outside>(
     i: usize,
     next: Result<Sheet, Refusal>,
 ) -> Result<Result<(), Refusal>, Fault>
-    ensures { CarriedOut (accepting_both i (on_content next)) (state_of node.old) (log outside.old) result (state_of node.new) (log outside.new) }
+    ensures { CarriedOut (accepting_both i (on_content next)) (state_of node.old) (O.log outside.old) result (state_of node.new) (O.log outside.new) }
 {
     let sheet = match next {
         Ok(sheet) => sheet,

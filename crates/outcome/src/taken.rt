@@ -19,7 +19,7 @@ pub fn hold<O: Outside>(
     i: usize,
     next: Result<Sheet, Refusal>,
 ) -> Result<Result<(), Refusal>, Fault>
-    ensures { CarriedOut (holding i (on_content next)) (state_of node.old) (log outside.old) result (state_of node.new) (log outside.new) }
+    ensures { CarriedOut (holding i (on_content next)) (state_of node.old) (O.log outside.old) result (state_of node.new) (O.log outside.new) }
 {
     let sheet = match next {
         Ok(sheet) => sheet,
@@ -37,7 +37,7 @@ pub fn learn<O: Outside>(
     outside: &mut O,
     key: &[u8; 32],
 ) -> Result<Result<(), Refusal>, Fault>
-    ensures { CarriedOut (learning key.now) (state_of node.old) (log outside.old) result (state_of node.new) (log outside.new) }
+    ensures { CarriedOut (learning key.now) (state_of node.old) (O.log outside.old) result (state_of node.new) (O.log outside.new) }
 {
     node.add_key(lock(key), *key)?;
     outside.record_key(key)?;

@@ -18,7 +18,7 @@ pub(crate) fn pay<O: Outside>(
     i: usize,
     lock: &[u8; 32],
 ) -> Result<Result<(), Refusal>, Fault>
-    ensures { CarriedOut (paid (state_of node.old) i lock.now) (state_of node.old) (log outside.old) result (state_of node.new) (log outside.new) }
+    ensures { CarriedOut (paid (state_of node.old) i lock.now) (state_of node.old) (O.log outside.old) result (state_of node.new) (O.log outside.new) }
 {
     let next = to_settle(node, i, Change::Paying, lock);
     sign(node, outside, i, next)
@@ -31,7 +31,7 @@ pub(crate) fn get<O: Outside>(
     i: usize,
     lock: &[u8; 32],
 ) -> Result<Result<(), Refusal>, Fault>
-    ensures { CarriedOut (got (state_of node.old) i lock.now) (state_of node.old) (log outside.old) result (state_of node.new) (log outside.new) }
+    ensures { CarriedOut (got (state_of node.old) i lock.now) (state_of node.old) (O.log outside.old) result (state_of node.new) (O.log outside.new) }
 {
     let next = to_settle(node, i, Change::Getting, lock);
     sign(node, outside, i, next)
@@ -44,7 +44,7 @@ pub(crate) fn give_up<O: Outside>(
     i: usize,
     lock: &[u8; 32],
 ) -> Result<Result<(), Refusal>, Fault>
-    ensures { CarriedOut (given_up (state_of node.old) i lock.now) (state_of node.old) (log outside.old) result (state_of node.new) (log outside.new) }
+    ensures { CarriedOut (given_up (state_of node.old) i lock.now) (state_of node.old) (O.log outside.old) result (state_of node.new) (O.log outside.new) }
 {
     let next = to_give_up(node, i, lock);
     sign(node, outside, i, next)
@@ -58,7 +58,7 @@ pub(crate) fn pass<O: Outside>(
     j: usize,
     payment: Payment,
 ) -> Result<Result<(), Refusal>, Fault>
-    ensures { CarriedOut (passed (state_of node.old) i j payment) (state_of node.old) (log outside.old) result (state_of node.new) (log outside.new) }
+    ensures { CarriedOut (passed (state_of node.old) i j payment) (state_of node.old) (O.log outside.old) result (state_of node.new) (O.log outside.new) }
 {
     let many = node.many();
     if i >= many || j >= many {

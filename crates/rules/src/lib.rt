@@ -26,7 +26,7 @@ pub fn message<O: Outside>(
     account: u32,
     message: Message,
 ) -> Result<Result<(), Refusal>, Fault>
-    ensures { CarriedOut (message_of (state_of node.old) account message) (state_of node.old) (log outside.old) result (state_of node.new) (log outside.new) }
+    ensures { CarriedOut (message_of (state_of node.old) account message) (state_of node.old) (O.log outside.old) result (state_of node.new) (O.log outside.new) }
 {
     let i = account as usize;
     match message {
@@ -45,7 +45,7 @@ pub fn call<O: Outside>(
     outside: &mut O,
     call: Call,
 ) -> Result<Result<(), Refusal>, Fault>
-    ensures { CarriedOut (call_of (state_of node.old) call) (state_of node.old) (log outside.old) result (state_of node.new) (log outside.new) }
+    ensures { CarriedOut (call_of (state_of node.old) call) (state_of node.old) (O.log outside.old) result (state_of node.new) (O.log outside.new) }
 {
     match call {
         Call::Pass { from, to, payment } => {

@@ -19,7 +19,7 @@ pub(crate) fn take_proposal<O: Outside>(
     i: usize,
     sheet: Sheet,
 ) -> Result<Result<(), Refusal>, Fault>
-    ensures { CarriedOut (proposed (state_of node.old) i (content_of sheet)) (state_of node.old) (log outside.old) result (state_of node.new) (log outside.new) }
+    ensures { CarriedOut (proposed (state_of node.old) i (content_of sheet)) (state_of node.old) (O.log outside.old) result (state_of node.new) (O.log outside.new) }
 {
     let next = to_accept(node, i, sheet);
     accept(node, outside, i, next)
@@ -33,7 +33,7 @@ pub(crate) fn take_signed_proposal<O: Outside>(
     sheet: Sheet,
     signature: Signature,
 ) -> Result<Result<(), Refusal>, Fault>
-    ensures { CarriedOut (proposed_signed (state_of node.old) i (content_of sheet) signature) (state_of node.old) (log outside.old) result (state_of node.new) (log outside.new) }
+    ensures { CarriedOut (proposed_signed (state_of node.old) i (content_of sheet) signature) (state_of node.old) (O.log outside.old) result (state_of node.new) (O.log outside.new) }
 {
     let next = to_accept_both(node, i, sheet, signature);
     if is_under_way(&node.account(i)) {
@@ -49,7 +49,7 @@ pub(crate) fn take_signature<O: Outside>(
     i: usize,
     signature: Signature,
 ) -> Result<Result<(), Refusal>, Fault>
-    ensures { CarriedOut (signed (state_of node.old) i signature) (state_of node.old) (log outside.old) result (state_of node.new) (log outside.new) }
+    ensures { CarriedOut (signed (state_of node.old) i signature) (state_of node.old) (O.log outside.old) result (state_of node.new) (O.log outside.new) }
 {
     let next = to_hold(node, i, signature);
     hold(node, outside, i, next)
@@ -61,7 +61,7 @@ pub(crate) fn take_key<O: Outside>(
     outside: &mut O,
     key: &[u8; 32],
 ) -> Result<Result<(), Refusal>, Fault>
-    ensures { CarriedOut (key_taken (state_of node.old) key.now) (state_of node.old) (log outside.old) result (state_of node.new) (log outside.new) }
+    ensures { CarriedOut (key_taken (state_of node.old) key.now) (state_of node.old) (O.log outside.old) result (state_of node.new) (O.log outside.new) }
 {
     if has_key(node, &lock(key)) {
         return Ok(Ok(()));

@@ -21,7 +21,7 @@ fn done<O: Outside>(
     outside: &mut O,
     request: &Request,
 ) -> Result<Result<(), Refusal>, Fault>
-    ensures { StepDone request.now (state_of node.old) (log outside.old) result (state_of node.new) (log outside.new) }
+    ensures { StepDone request.now (state_of node.old) (O.log outside.old) result (state_of node.new) (O.log outside.new) }
 {
     match request {
         Request::Message(account, told) => message(node, outside, *account, *told),
@@ -36,8 +36,8 @@ pub fn take<O: Outside>(
     outside: &mut O,
     request: &Request,
 ) -> Result<Result<(), Refusal>, Fault>
-    ensures done { StepDone request.now (state_of node.old) (log outside.old) result (state_of node.new) (log outside.new) }
-    ensures continues { Continues request.now (state_of node.old) (log outside.old) result (state_of node.new) (log outside.new) }
+    ensures done { StepDone request.now (state_of node.old) (O.log outside.old) result (state_of node.new) (O.log outside.new) }
+    ensures continues { Continues request.now (state_of node.old) (O.log outside.old) result (state_of node.new) (O.log outside.new) }
 {
     done(node, outside, request)
 }
