@@ -6,7 +6,7 @@ use Rattle.looking.proofs.gathering.gather.Goals as goal
 
 pub loop-payment-preserved : goal.loop-payment-preserved
 loop-payment-preserved c =
-    (gathered_more (state_of c.args.node.now) c.args.below c.args.i c.args.shown.now c.args.ins.now c.loop-payment.payment-index _ (keys_of c.loop-payment.all) (keys_of c.with-one-all.result) (keys_of c.args.keys) c.wanted-for-key.result c.loop-payment-test.true c.wanted-for-key.ensures c.with-one-all.ensures.value c.loop-payment.invariant.0, omega arith)
+    (gathered_more (state_of c.args.node.now) c.args.below c.args.i c.args.shown.now c.args.ins.now c.loop-payment.payment-index _ (keys_of c.loop-payment.all) (keys_of c.with_one-all.result) (keys_of c.args.keys) c.wanted_for-key.result c.loop-payment-test.true c.wanted_for-key.ensures c.with_one-all.ensures.value c.loop-payment.invariant.0, omega arith)
 
 pub returns : goal.returns
 returns c =

@@ -4,13 +4,13 @@ use Rattle.looking.specs.Looking.{is_among}
 use Rattle.looking.proofs.Searches.{found_here, passed_more, found_nowhere}
 use Rattle.looking.proofs.gathering.is_among.Goals as goal
 
-pub returns-then-same-lock : goal.returns-then-same-lock
-returns-then-same-lock c =
-    found_here (is_among c.args.key.now) (λ k. bytes_eq k c.args.key.now) (λ x r. refl) refl c.args.keys.now c.loop-other.other-index _ c.loop-other-test.true c.if-same-lock.ensures c.loop-other.invariant
+pub returns-then-same_lock : goal.returns-then-same_lock
+returns-then-same_lock c =
+    found_here (is_among c.args.key.now) (λ k. bytes_eq k c.args.key.now) (λ x r. refl) refl c.args.keys.now c.loop-other.other-index _ c.loop-other-test.true c.if-same_lock.ensures c.loop-other.invariant
 
 pub loop-other-preserved : goal.loop-other-preserved
 loop-other-preserved c =
-    passed_more (is_among c.args.key.now) (λ k. bytes_eq k c.args.key.now) (λ x r. refl) refl c.args.keys.now c.loop-other.other-index _ c.loop-other-test.true c.if-same-lock.ensures c.loop-other.invariant
+    passed_more (is_among c.args.key.now) (λ k. bytes_eq k c.args.key.now) (λ x r. refl) refl c.args.keys.now c.loop-other.other-index _ c.loop-other-test.true c.if-same_lock.ensures c.loop-other.invariant
 
 pub returns : goal.returns
 returns c =

@@ -5,16 +5,16 @@ use Rattle.looking.proofs.Doing.{did_failed}
 use Rattle.looking.proofs.Showings.{sheet_failed, keys_failed, shown_both}
 use Rattle.looking.proofs.showing.show_in.Goals as goal
 
-pub returns-in-err-show-sheet : goal.returns-in-err-show-sheet
-returns-in-err-show-sheet g c =
-    did_failed _ _ _ c.from-residual.result c.from-residual.ensures.0
-    (sheet_failed (state_of c.args.node.now) c.args.tick c.args.shown.now c.args.i (standing_of c.account-account.result) (account_at (state_of c.args.node.now) c.args.i) c.terms.result c.shows-held-applies.result c.account-account.ensures c.terms.ensures c.shows-held-applies.ensures _ _ c.in-err-show-sheet.ensures)
+pub returns-in_err-show_sheet : goal.returns-in_err-show_sheet
+returns-in_err-show_sheet g c =
+    did_failed _ _ _ c.from_residual.result c.from_residual.ensures.0
+    (sheet_failed (state_of c.args.node.now) c.args.tick c.args.shown.now c.args.i (standing_of c.account-account.result) (account_at (state_of c.args.node.now) c.args.i) c.terms.result c.shows_held-applies.result c.account-account.ensures c.terms.ensures c.shows_held-applies.ensures _ _ c.in_err-show_sheet.ensures)
 
-pub returns-in-err-show-keys : goal.returns-in-err-show-keys
-returns-in-err-show-keys g c =
-    did_failed _ _ _ c.from-residual-in-err-show-keys.result c.from-residual-in-err-show-keys.ensures.0
-    (keys_failed (state_of c.args.node.now) c.args.tick c.args.shown.now c.args.i (standing_of c.account-account.result) (account_at (state_of c.args.node.now) c.args.i) c.terms.result c.shows-held-applies.result c.account-account.ensures c.terms.ensures c.shows-held-applies.ensures _ _ c.in-ok-show-sheet.ensures (keys_of c.keys-to-show-keys.result) c.all.result.now c.keys-to-show-keys.ensures c.all.ensures _ c.in-err-show-keys.ensures)
+pub returns-in_err-show_keys : goal.returns-in_err-show_keys
+returns-in_err-show_keys g c =
+    did_failed _ _ _ c.from_residual-in_err-show_keys.result c.from_residual-in_err-show_keys.ensures.0
+    (keys_failed (state_of c.args.node.now) c.args.tick c.args.shown.now c.args.i (standing_of c.account-account.result) (account_at (state_of c.args.node.now) c.args.i) c.terms.result c.shows_held-applies.result c.account-account.ensures c.terms.ensures c.shows_held-applies.ensures _ _ c.in_ok-show_sheet.ensures (keys_of c.keys_to_show-keys.result) c.all.result.now c.keys_to_show-keys.ensures c.all.ensures _ c.in_err-show_keys.ensures)
 
 pub returns : goal.returns
 returns g c =
-    shown_both (state_of c.args.node.now) c.args.tick c.args.shown.now c.args.i (standing_of c.account-account.result) (account_at (state_of c.args.node.now) c.args.i) c.terms.result c.shows-held-applies.result c.account-account.ensures c.terms.ensures c.shows-held-applies.ensures _ _ c.in-ok-show-sheet.ensures (keys_of c.keys-to-show-keys.result) c.all.result.now c.keys-to-show-keys.ensures c.all.ensures _ c.in-ok-show-keys.ensures
+    shown_both (state_of c.args.node.now) c.args.tick c.args.shown.now c.args.i (standing_of c.account-account.result) (account_at (state_of c.args.node.now) c.args.i) c.terms.result c.shows_held-applies.result c.account-account.ensures c.terms.ensures c.shows_held-applies.ensures _ _ c.in_ok-show_sheet.ensures (keys_of c.keys_to_show-keys.result) c.all.result.now c.keys_to_show-keys.ensures c.all.ensures _ c.in_ok-show_keys.ensures
