@@ -6,4 +6,4 @@ use Rattle.replay.proofs.replaying.go_through.Given as goal
 abbrev pub invariant-loop-turn : goal.invariant-loop-turn
 invariant-loop-turn l =
     (l.whole ≤ length l.bytes)
-    × (progress_from (length l.bytes - l.-turn) l.bytes l.whole l.others (state_of l.node) ≡ progress_of (state_of l.initial.node) l.bytes)
+    × (progress_from (length l.bytes - l._turn) l.bytes l.whole l.others (state_of l.node) ≡ progress_of (state_of l.initial.node) l.bytes)

@@ -3,4 +3,4 @@ use Rattle.node_state.specs.Nodes.{NodeState}
 use Rattle.replay.proofs.taking.take_first.Goals as goal
 
 pub returns : goal.returns
-returns c = (sym c.if-not-fits-first.ensures, ap (λ (z : Bool × NodeState). z.1) c.open-account.ensures)
+returns c = (sym c.if-not-fits_first.ensures, ap (λ (z : Bool × NodeState). z.1) c.open_account.ensures)
