@@ -12,6 +12,6 @@ returns c =
       value =
           c.total.ensures.value
           ∙ ap (λ (cs : List Content). least_by (has_key (state_of c.args.node.now)) cs)
-          (ap (λ (k : ℕ). map content_of (take k c.lesser-sheets-sheets.result)) (sub-zero c.many.result ∙ c.many.ensures.value) ∙ c.lesser-sheets-sheets.ensures.value);
+          (ap (λ (k : ℕ). map content_of (take k c.lesser_sheets-sheets.result)) (sub-zero c.many.result ∙ c.many.ensures.value) ∙ c.lesser_sheets-sheets.ensures.value);
       bound = c.total.ensures.bound;
     }

@@ -8,7 +8,7 @@ use Rattle.counting.proofs.lesser_sheets.Goals as goal
 
 pub loop-i-preserved : goal.loop-i-preserved
 loop-i-preserved c =
-    (lessers_step c.loop-i.sheets (state_of c.args.node.now).accounts c.loop-i.i c.lesser-sheet-sheet.result (opened_of (first_of 0 0 0)) (omega (arith, c.loop-i.invariant.1, c.loop-i-test.true, c.many-i-end.ensures.few)) (omega (arith, c.loop-i-test.true, c.many-i-end.ensures.value)) (c.lesser-sheet-sheet.ensures ∙ ap lesser c.account.ensures) c.loop-i.invariant.0, length-set c.loop-i.sheets c.loop-i.i c.lesser-sheet-sheet.result ∙ c.loop-i.invariant.1)
+    (lessers_step c.loop-i.sheets (state_of c.args.node.now).accounts c.loop-i.i c.lesser_sheet-sheet.result (opened_of (first_of 0 0 0)) (omega (arith, c.loop-i.invariant.1, c.loop-i-test.true, c.many-i-end.ensures.few)) (omega (arith, c.loop-i-test.true, c.many-i-end.ensures.value)) (c.lesser_sheet-sheet.ensures ∙ ap lesser c.account.ensures) c.loop-i.invariant.0, length-set c.loop-i.sheets c.loop-i.i c.lesser_sheet-sheet.result ∙ c.loop-i.invariant.1)
 
 pub returns : goal.returns
 returns c =

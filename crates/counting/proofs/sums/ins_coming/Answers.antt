@@ -8,7 +8,7 @@ use Rattle.counting.proofs.sums.ins_coming.Goals as goal
 
 pub loop-p-preserved : goal.loop-p-preserved
 loop-p-preserved c =
-    (those_step (is_worse_shown (has_key (state_of c.args.node.now)) (map content_of c.args.sheets.now)) c.args.list.now c.loop-p.p-index _ c.loop-p.sum c.amount-if-sum.result c.is-worse-shown.result c.loop-p-test.true c.amount-if-sum.ensures.value c.is-worse-shown.ensures c.loop-p.invariant.0, omega (arith, c.loop-p.invariant.1, c.amount-if-sum.ensures.bound))
+    (those_step (is_worse_shown (has_key (state_of c.args.node.now)) (map content_of c.args.sheets.now)) c.args.list.now c.loop-p.p-index _ c.loop-p.sum c.amount_if-sum.result c.is_worse_shown.result c.loop-p-test.true c.amount_if-sum.ensures.value c.is_worse_shown.ensures c.loop-p.invariant.0, omega (arith, c.loop-p.invariant.1, c.amount_if-sum.ensures.bound))
 
 pub returns : goal.returns
 returns c =

@@ -5,7 +5,7 @@ use Rattle.counting.proofs.sums.with_lock.Goals as goal
 
 pub loop-p-preserved : goal.loop-p-preserved
 loop-p-preserved c =
-    (those_step (λ x. bytes_eq x c.args.lock.now) c.args.list.now c.loop-p.p-index _ c.loop-p.sum c.amount-if-sum.result c.same-lock.result c.loop-p-test.true c.amount-if-sum.ensures.value c.same-lock.ensures c.loop-p.invariant.0, omega (arith, c.loop-p.invariant.1, c.amount-if-sum.ensures.bound))
+    (those_step (λ x. bytes_eq x c.args.lock.now) c.args.list.now c.loop-p.p-index _ c.loop-p.sum c.amount_if-sum.result c.same_lock.result c.loop-p-test.true c.amount_if-sum.ensures.value c.same_lock.ensures c.loop-p.invariant.0, omega (arith, c.loop-p.invariant.1, c.amount_if-sum.ensures.bound))
 
 pub returns : goal.returns
 returns c =
