@@ -128,20 +128,14 @@ fn started(heap: Global, path: &str, bytes: &[u8]) -> anyhow::Result<Replayed> {
     match replay(heap, terms, bytes) {
         Ok(replayed) => Ok(replayed),
         Err(StartFault::Memory) => Err(anyhow!("out of memory")),
-        Err(StartFault::Damaged { at }) => {
-            let words = format!(in heap; "{path}, byte {at}: damaged")?;
-            Err(words.into())
-        }
+        Err(StartFault::Damaged { at }) => { Err(anyhow!("{path}, byte {at}: damaged")) }
     }
 }
 
 fn contents(rt: &HostRuntime, path: &str) -> anyhow::Result<Vec<u8>> {
     match fs::read(rt, path) {
         Ok(bytes) => Ok(bytes),
-        Err(e) => {
-            let words = format!(in rt.alloc(); "{path}: {e}")?;
-            Err(words.into())
-        }
+        Err(e) => { Err(anyhow!("{path}: {e}")) }
     }
 }
 
@@ -158,10 +152,7 @@ fn run(rt: &HostRuntime, word: &str, json: bool) -> anyhow::Result<()> {
         Ok(counted) => counted,
         Err(disorder) => {
             let account = disorder.account;
-            let words = format!(in rt.alloc();
-                "{path}: next of account {account} is not held with one change"
-            )?;
-            return Err(words.into());
+            return Err(anyhow!("{path}: next of account {account} is not held with one change"));
         }
     };
     if json {
