@@ -1,6 +1,6 @@
 -- What each of the six changes does, in the words of the rules: the sheets that follow a sheet. Assumes nothing.
 use Rattle.std.specs.Prelude.{◌≡◌, ℕ, ◌+◌, ◌<◌, ◌≤◌, List, ◌∷◌, ◌++◌, length, Ok, ◌≢◌}
-use Rattle.std.specs.List.{AllByRecursion as All}
+use Rattle.std.specs.List.{AllByRecursion}
 use Rattle.sheet.specs.declared.types.Payment.{Payment}
 use Rattle.sheet.specs.Contents.{Content}
 use Rattle.change.specs.declared.types.Change.{Change}
@@ -9,7 +9,7 @@ use Rattle.change.specs.Changes.{most, changed}
 
 -- No payment of the list has the lock.
 abbrev pub NotAmong : List ℕ → List Payment → Type 0
-NotAmong lock ps = All (λ q. q.lock ≢ lock) ps
+NotAmong lock ps = AllByRecursion (λ q. q.lock ≢ lock) ps
 
 -- The payment comes first, before the others, and its amount is taken out of `from`, which leaves `left`.
 pub record AddedTo (p : Payment) (ps qs : List Payment) (from left : ℕ) : Type 0 where

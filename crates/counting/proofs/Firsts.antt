@@ -1,6 +1,6 @@
 -- What is read of the first sheets.
 use Rattle.std.proofs.Common.{◌≡◌, ℕ, zero, suc, ◌+◌, ◌*◌, ◌^◌, ◌<◌, ◌≤◌, List, [], ◌∷◌, ◌++◌, length, drop, sym, refl, ap, ◌∙◌, append_assoc, arith}
-use Rattle.std.specs.List.{flat_map, AllByRecursion as All}
+use Rattle.std.specs.List.{flat_map, AllByRecursion}
 use Rattle.sheet.specs.Contents.{first_of}
 use Rattle.sheet_bytes.specs.Bytes.{head_bytes, sheet_bytes}
 use Rattle.sheet_bytes.specs.Theorems.{Good}
@@ -23,7 +23,7 @@ drop_past : (xs ys : List ℕ) (k : ℕ) → drop (length xs + k) (xs ++ ys) ≡
 drop_past [] ys k = let e : ◌≡◌ {A = ℕ} (0 + k) k = omega arith in ap (λ (m : ℕ). drop m ys) e
 drop_past (x ∷ xs) ys k = let e : ◌≡◌ {A = ℕ} (suc (length xs) + k) (suc (length xs + k)) = omega arith in ap (λ (m : ℕ). drop m (x ∷ (xs ++ ys))) e ∙ drop_past xs ys k
 
-own_at : (ds : List Deposit) (i k : ℕ) (rest : List ℕ) → k < length ds → i + length ds ≤ 256 → All FourBytes ds → own_first (flat_map record_bytes (first_records i ds) ++ rest) k ≡ (deposit_at ds k).own
+own_at : (ds : List Deposit) (i k : ℕ) (rest : List ℕ) → k < length ds → i + length ds ≤ 256 → AllByRecursion FourBytes ds → own_first (flat_map record_bytes (first_records i ds) ++ rest) k ≡ (deposit_at ds k).own
 own_at [] i k rest l few fit = absurd (omega arith)
 own_at (d ∷ ds) i zero rest l few fit =
     let r = both_record (first_of i d.own d.theirs) in

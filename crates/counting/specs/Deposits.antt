@@ -1,6 +1,6 @@
 -- What a node put in, by its file. Assumes nothing.
 use Rattle.std.specs.Prelude.{◌≡◌, ℕ, ◌+◌, ◌*◌, ◌^◌, ◌<◌, ◌≤◌, List, [], ◌∷◌, ◌++◌, length, drop}
-use Rattle.std.specs.List.{flat_map, AllByRecursion as All}
+use Rattle.std.specs.List.{flat_map, AllByRecursion}
 use Rattle.sheet.specs.Contents.{first_of}
 use Rattle.node_state.specs.Nodes.{NodeState}
 use Rattle.journal.specs.Records.{Recorded, signed_record, both_record, passed_record, key_record, Outcome, whole_record, short_record, damaged_record, record_read, record_bytes}
@@ -38,5 +38,5 @@ FourBytes d = (d.own < 2 ^ 32) × (d.theirs < 2 ^ 32)
 -- Whatever follows the first sheets in a file, what is read from it is what the node put in.
 abbrev pub DepositsRead : Type 0
 DepositsRead =
-    (n : NodeState) (ds : List Deposit) (rest : List ℕ) → length n.accounts ≡ length ds → length ds ≤ 16 → All FourBytes ds →
+    (n : NodeState) (ds : List Deposit) (rest : List ℕ) → length n.accounts ≡ length ds → length ds ≤ 16 → AllByRecursion FourBytes ds →
     deposits_of n (flat_map record_bytes (first_records 0 ds) ++ rest) ≡ put_in ds

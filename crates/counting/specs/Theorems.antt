@@ -1,6 +1,6 @@
 -- What holds of the least, and of every run of a node. Assumes nothing.
 use Rattle.std.specs.Prelude.{ℕ, ◌≤◌, List, ◌++◌, length, pos, ◌≤ℤ◌, Ok}
-use Rattle.std.specs.List.{flat_map, AllByRecursion as All}
+use Rattle.std.specs.List.{flat_map, AllByRecursion}
 use Rattle.node_state.specs.declared.types.Terms.{Terms}
 use Rattle.node_state.specs.Nodes.{NodeState}
 use Rattle.journal.specs.Records.{record_bytes}
@@ -28,5 +28,5 @@ NotBelow = (terms : Terms) (ds : List Deposit) (events : List Event) (least : �
 -- The difference that is printed for the node of a run, beside a file that begins with its first sheets, is not below 0.
 abbrev pub NotNegative : Type 0
 NotNegative =
-    (terms : Terms) (ds : List Deposit) (events : List Event) (rest : List ℕ) (c : Count) → length ds ≤ 16 → All FourBytes ds →
+    (terms : Terms) (ds : List Deposit) (events : List Event) (rest : List ℕ) (c : Count) → length ds ≤ 16 → AllByRecursion FourBytes ds →
     Compared (node_after terms ds events) (flat_map record_bytes (first_records 0 ds) ++ rest) (Ok c) → pos 0 ≤ℤ c.difference

@@ -4,7 +4,7 @@ use lib.Seq.{take-append-add}
 use Rattle.std.proofs.ByRecursion.{All-drop, All-push}
 use Rattle.std.proofs.lemmas.List.{append_assoc, append-nil, drop_at, drop-drop, flat_map_more, length-append, length-drop, length-take, length-take-le, take_all, take-append-le}
 use Rattle.std.proofs.lemmas.Bool.{cases_lt, cond-true, cond-false, eq-eqb, le-leb, lt-leb}
-use Rattle.std.specs.List.{flat_map, AllByRecursion as All}
+use Rattle.std.specs.List.{flat_map, AllByRecursion}
 use Rattle.sheet_bytes.specs.Theorems.{AreBytes}
 use Rattle.journal.specs.Records.{Recorded, rest_bytes, record_bytes, Outcome, whole_record, short_record, damaged_record, record_read, records_after, first_records, records_of, reach_after, reach_from, whole_part}
 use Rattle.journal.specs.Theorems.{GoodRecord, whole_before, ReadBack, Split, SplitAt, OnlyWritten}
@@ -52,7 +52,7 @@ module _ (r : Recorded) (rs : List Recorded) (g : GoodRecord r) (cut : ℕ) wher
       let whole : r ∷ whole_before more rs ≡ whole_before cut (r ∷ rs) = sym (cond-true (leb (length (record_bytes r)) cut) _ _ (le-leb _ _ le)) in
       subst (λ qs. Goes (suc turns) (take cut (record_bytes r ++ flat_map record_bytes rs)) qs) whole (subst (λ bs. Goes (suc turns) bs (r ∷ whole_before more rs)) form (goes_whole turns r _ _ g (on turns room)))
 
-cut_goes : (rs : List Recorded) → All GoodRecord rs → (cut turns : ℕ) → length (take cut (flat_map record_bytes rs)) ≤ turns → Goes turns (take cut (flat_map record_bytes rs)) (whole_before cut rs)
+cut_goes : (rs : List Recorded) → AllByRecursion GoodRecord rs → (cut turns : ℕ) → length (take cut (flat_map record_bytes rs)) ≤ turns → Goes turns (take cut (flat_map record_bytes rs)) (whole_before cut rs)
 cut_goes [] g cut turns h =
     subst (λ left. Goes turns left []) (sym (take_all cut [] (omega arith))) (goes_short turns [] refl)
 cut_goes (r ∷ rs) g cut turns h =
@@ -68,7 +68,7 @@ read_back rs g cut =
 -- from a place on, where records take just the bytes before it
 abbrev On : ℕ → List ℕ → Type 0
 On turns bs =
-    (at : ℕ) (done : List Recorded) → length (drop at bs) ≤ turns → at ≤ length bs → take at bs ≡ flat_map record_bytes done → All GoodRecord done → SplitAt bs (done ++ first_records turns (drop at bs)) (reach_from turns bs at)
+    (at : ℕ) (done : List Recorded) → length (drop at bs) ≤ turns → at ≤ length bs → take at bs ≡ flat_map record_bytes done → AllByRecursion GoodRecord done → SplitAt bs (done ++ first_records turns (drop at bs)) (reach_from turns bs at)
 
 reach_split : (turns : ℕ) (bs : List ℕ) → AreBytes bs → On turns bs
 reach_split zero bs bytes at done h le e g =

@@ -1,7 +1,7 @@
 -- What holds of the file: cut anywhere, the records that lie whole before the cut are read back, and nothing is read
 -- that was not written so. Assumes nothing.
 use Rattle.std.specs.Prelude.{◌≡◌, ℕ, ◌-◌, ◌<◌, ◌≤◌, cond, List, [], ◌∷◌, ◌++◌, length, take, drop, Ok, Err, Result, nat_le}
-use Rattle.std.specs.List.{flat_map, AllByRecursion as All}
+use Rattle.std.specs.List.{flat_map, AllByRecursion}
 use Rattle.sheet_bytes.specs.Theorems.{AreBytes, Good}
 use Rattle.journal.specs.Records.{Recorded, signed_record, both_record, passed_record, key_record, record_bytes, Outcome, whole_record, short_record, damaged_record, record_read, records_of, whole_part}
 
@@ -24,7 +24,7 @@ whole_before cut (r ∷ rs) = cond (nat_le (length (record_bytes r)) cut) (r ∷
 -- Wherever the bytes of good records are cut, just those whole before the cut are read, and the whole part is theirs.
 abbrev pub ReadBack : Type 0
 ReadBack =
-    (rs : List Recorded) → All GoodRecord rs → (cut : ℕ) → (records_of (take cut (flat_map record_bytes rs)) ≡ whole_before cut rs)
+    (rs : List Recorded) → AllByRecursion GoodRecord rs → (cut : ℕ) → (records_of (take cut (flat_map record_bytes rs)) ≡ whole_before cut rs)
     × (whole_part (take cut (flat_map record_bytes rs)) ≡ Ok (length (flat_map record_bytes (whole_before cut rs))))
 
 -- Whatever is read as one record is good and was written so: a record has no second form.
@@ -34,7 +34,7 @@ OneWritten =
 
 -- Good records take just the bytes before a place, and at the place there is this.
 pub record Split (bytes : List ℕ) (rs : List Recorded) (at : ℕ) (there : Outcome) : Type 0 where
-  pub good : All GoodRecord rs
+  pub good : AllByRecursion GoodRecord rs
   pub within : at ≤ length bytes
   pub before : take at bytes ≡ flat_map record_bytes rs
   pub after : record_read (drop at bytes) ≡ there

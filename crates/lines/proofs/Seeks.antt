@@ -4,7 +4,7 @@ use mathlib.Core.Bool.{beq}
 use native.Mathlib.Nat.{sub-zero}
 use Rattle.std.proofs.lemmas.List.{at_drop_more, at_drop_all, take_rest, take_all, drop_all}
 use Rattle.std.proofs.lemmas.Bool.{cond-true, cond-false, cond_both, eqb-false, eq-eqb, ne_eqb, true≢false}
-use Rattle.std.specs.List.{AllByRecursion as All}
+use Rattle.std.specs.List.{AllByRecursion}
 use Rattle.lines.specs.Lines.{seek, cut_at, past_first, parts, parts_after, on_first, filled, words, word_in, word_then_words, first_word, FirstThenRest, WordsStand, PartsComeApart}
 
 module _ (is : Bool) (b : ℕ) (xs : List ℕ) (i : ℕ) (inv : i + seek is b (drop i xs) ≡ seek is b xs) where
@@ -86,16 +86,16 @@ pub first_then_rest : FirstThenRest
 first_then_rest line = words_skip line ∙ words_in _ (starts_skip line)
 
 -- no part at b holds b
-free_first : (b x : ℕ) (ps : List (List ℕ)) → (x ≡ b → ⊥) → All (All (λ y. y ≡ b → ⊥)) ps → All (All (λ y. y ≡ b → ⊥)) (on_first x ps)
+free_first : (b x : ℕ) (ps : List (List ℕ)) → (x ≡ b → ⊥) → AllByRecursion (AllByRecursion (λ y. y ≡ b → ⊥)) ps → AllByRecursion (AllByRecursion (λ y. y ≡ b → ⊥)) (on_first x ps)
 free_first b x [] ne h = ((ne, tt), tt)
 free_first b x (p ∷ ps) ne h = ((ne, h.0), h.1)
 
-parts_free : (b : ℕ) (t : List ℕ) → All (All (λ y. y ≡ b → ⊥)) (parts b t)
+parts_free : (b : ℕ) (t : List ℕ) → AllByRecursion (AllByRecursion (λ y. y ≡ b → ⊥)) (parts b t)
 parts_free b [] = (tt, tt)
 parts_free b (x ∷ xs) =
-    cond_both (eqb x b) _ _ (All (All (λ y. y ≡ b → ⊥))) (λ e. (tt, parts_free b xs)) (λ e. free_first b x _ (eqb-false x b e) (parts_free b xs))
+    cond_both (eqb x b) _ _ (AllByRecursion (AllByRecursion (λ y. y ≡ b → ⊥))) (λ e. (tt, parts_free b xs)) (λ e. free_first b x _ (eqb-false x b e) (parts_free b xs))
 
-filled_stand : (ps : List (List ℕ)) → All (All (λ y. y ≡ 32 → ⊥)) ps → All (λ w. (0 < length w) × All (λ y. y ≡ 32 → ⊥) w) (filled ps)
+filled_stand : (ps : List (List ℕ)) → AllByRecursion (AllByRecursion (λ y. y ≡ 32 → ⊥)) ps → AllByRecursion (λ w. (0 < length w) × AllByRecursion (λ y. y ≡ 32 → ⊥) w) (filled ps)
 filled_stand [] h = tt
 filled_stand ([] ∷ ps) h = filled_stand ps h.1
 filled_stand ((x ∷ p) ∷ ps) h = ((omega arith, h.0), filled_stand ps h.1)

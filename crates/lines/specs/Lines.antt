@@ -4,7 +4,7 @@ use Rattle.std.specs.Bool.{beq}
 use Rattle.std.specs.Option.{unwrap_or}
 use Rattle.std.specs.Int.{is_in_range}
 use Rattle.std.specs.Fmt as written
-use Rattle.std.specs.List.{AllByRecursion as All}
+use Rattle.std.specs.List.{AllByRecursion}
 use Rattle.std.specs.Str.{all_ascii_digits}
 use Rattle.lines.specs.declared.Word.{Word}
 use Rattle.lines.specs.declared.NumberFault.{NumberFault}
@@ -29,7 +29,7 @@ parts b (x ∷ xs) = cond (x == b) ([] ∷ parts b xs) (on_first x (parts b xs))
 
 -- Words without b, with a b between one and the next, come apart into those words.
 abbrev pub PartsComeApart : Type 0
-PartsComeApart = (b : ℕ) (w : List ℕ) → All (λ x. x ≢ b) w → (parts b w ≡ w ∷ []) × ((t : List ℕ) → parts b (w ++ b ∷ t) ≡ w ∷ parts b t)
+PartsComeApart = (b : ℕ) (w : List ℕ) → AllByRecursion (λ x. x ≢ b) w → (parts b w ≡ w ∷ []) × ((t : List ℕ) → parts b (w ++ b ∷ t) ≡ w ∷ parts b t)
 
 -- those that are not empty
 abbrev pub filled : List (List ℕ) → List (List ℕ)
@@ -96,7 +96,7 @@ FirstThenRest = (line : List ℕ) → words line ≡ word_then_words (first_word
 
 -- A word is not empty and holds no space.
 abbrev pub WordsStand : Type 0
-WordsStand = (line : List ℕ) → All (λ w. (0 < length w) × All (λ b. b ≢ space) w) (words line)
+WordsStand = (line : List ℕ) → AllByRecursion (λ w. (0 < length w) × AllByRecursion (λ b. b ≢ space) w) (words line)
 
 -- The value of decimal digits, read from the left after the number n.
 abbrev pub decimal_after : ℕ → List ℕ → ℕ
@@ -165,4 +165,4 @@ hex_written (b ∷ bs) = hex_code (b / 16) ∷ hex_code (b % 16) ∷ hex_written
 
 -- Written hexadecimal reads back.
 abbrev pub HexReadsBack : Type 0
-HexReadsBack = (bs : List ℕ) → All (λ b. b < 256) bs → hex_read (hex_written bs) ≡ Some bs
+HexReadsBack = (bs : List ℕ) → AllByRecursion (λ b. b < 256) bs → hex_read (hex_written bs) ≡ Some bs

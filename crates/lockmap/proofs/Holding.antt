@@ -7,7 +7,7 @@ use Rattle.std.proofs.lemmas.Bool.Decides.{same_from_decides}
 use Rattle.std.proofs.lemmas.Map.Text.{is_eq-slice_cmp}
 use Rattle.std.specs.BTreeMap.{BTreeMap, get, IsEmpty, IsUnchanged, Updates}
 use Rattle.std.specs.Cmp.Lexicographic.{slice_cmp}
-use Rattle.std.specs.List.{slice_get, AllByRecursion as All}
+use Rattle.std.specs.List.{slice_get, AllByRecursion}
 use Rattle.std.specs.Map.{lookup}
 use Rattle.std.specs.Ordering.{is_eq, nat_cmp}
 use Rattle.std.specs.Str.{bytes_eq}
@@ -34,11 +34,11 @@ module _ {X : Type 0} where
   nth_set_other (w ∷ ws) (suc i) (suc j) y n = nth_set_other ws i j y (λ e. n (ap suc e))
 
 module _ {V : Type 0} where
-  pub held_bare : (bs : List (BTreeMap (List ℕ) V)) → All IsEmpty bs → (l : List ℕ) → held bs l ≡ None
+  pub held_bare : (bs : List (BTreeMap (List ℕ) V)) → AllByRecursion IsEmpty bs → (l : List ℕ) → held bs l ≡ None
   unfolding held
   held_bare bs h l = go bs (bucket_of l) h
     where
-      go : (cs : List (BTreeMap (List ℕ) V)) (i : ℕ) → All IsEmpty cs → within (slice_get cs i) l ≡ None
+      go : (cs : List (BTreeMap (List ℕ) V)) (i : ℕ) → AllByRecursion IsEmpty cs → within (slice_get cs i) l ≡ None
       go [] i k = refl
       go (c ∷ cs) zero k = ap (lookup (λ q. is_eq (slice_cmp nat_cmp l q))) k.0
       go (c ∷ cs) (suc i) k = go cs i k.1

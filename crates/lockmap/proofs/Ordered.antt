@@ -6,14 +6,14 @@ use Rattle.std.specs.BTreeMap.{BTreeMap, keys, values, IsOrdered, IsEmpty}
 use Rattle.std.specs.Cmp.Lexicographic.{slice_cmp}
 use Rattle.std.specs.FinMap.{is_sorted}
 use Rattle.std.specs.FinMap.Entries.{below_all}
-use Rattle.std.specs.List.{AllByRecursion as All}
+use Rattle.std.specs.List.{AllByRecursion}
 use Rattle.std.specs.List.Sorted.{IsStrictlySortedBy}
 use Rattle.std.specs.Map.{keys_of}
 use Rattle.std.specs.Ordering.{is_lt, nat_cmp}
 use Rattle.lockmap.specs.Buckets.{in_order, all_in_order}
 
 module _ {V : Type 0} where
-  below_from_all : (k : List ℕ) (es : List (List ℕ × V)) → All (λ l. slice_cmp nat_cmp k l ≡ Less) (keys_of es) → below_all (slice_cmp nat_cmp) k es ≡ true
+  below_from_all : (k : List ℕ) (es : List (List ℕ × V)) → AllByRecursion (λ l. slice_cmp nat_cmp k l ≡ Less) (keys_of es) → below_all (slice_cmp nat_cmp) k es ≡ true
   below_from_all k [] h = refl
   below_from_all k (e ∷ es) h = and_from (is_lt (slice_cmp nat_cmp k e.0)) (below_all (slice_cmp nat_cmp) k es) (ap is_lt h.0) (below_from_all k es h.1)
 
@@ -39,7 +39,7 @@ module _ {V : Type 0} where
   unfolding IsStrictlySortedBy
   ordered_empty b h = subst (λ es. IsStrictlySortedBy (slice_cmp nat_cmp) (keys_of es)) (sym h) tt
 
-  pub ordered_bare : (bs : List (BTreeMap (List ℕ) V)) → All IsEmpty bs → all_in_order bs ≡ true
+  pub ordered_bare : (bs : List (BTreeMap (List ℕ) V)) → AllByRecursion IsEmpty bs → all_in_order bs ≡ true
   unfolding all_in_order
   ordered_bare [] h = refl
   ordered_bare (x ∷ xs) h = and_from (in_order x) (all_in_order xs) (to_in_order x (ordered_empty x h.0)) (ordered_bare xs h.1)

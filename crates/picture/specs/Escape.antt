@@ -1,7 +1,7 @@
 -- How a text stands in an XML document. Assumes nothing.
 use Rattle.std.specs.Prelude.{◌≡◌, ℕ, cond, List, [], ◌∷◌, ◌==◌, ◌≢◌}
 use Rattle.std.specs.Int.{is_in_range}
-use Rattle.std.specs.List.{flat_map, AllByRecursion as All}
+use Rattle.std.specs.List.{flat_map, AllByRecursion}
 
 -- What stands for a byte: `&amp;`, `&lt;`, `&gt;` and `&quot;` for the four that mean something in XML, the byte itself where it can be printed
 -- (32 to 126), and a question mark for every other, so that whatever comes in is well-formed.
@@ -19,4 +19,4 @@ escaped text = flat_map escaped_byte text
 
 -- No byte of an escaped text opens or closes a tag or ends a quoted value.
 abbrev pub NoMarkup : Type 0
-NoMarkup = (text : List ℕ) → All (λ b. (b ≢ 60) × (b ≢ 62) × (b ≢ 34)) (escaped text)
+NoMarkup = (text : List ℕ) → AllByRecursion (λ b. (b ≢ 60) × (b ≢ 62) × (b ≢ 34)) (escaped text)

@@ -1,7 +1,7 @@
 -- What holds of a start: it goes by the file's whole records, finds again what was written, and wherever the file is cut it
 -- finds a first part of that. Assumes nothing.
 use Rattle.std.specs.Prelude.{◌≡◌, ℕ, Bool, true, false, cond, not, ◌||◌, List, [], ◌∷◌, map, length, take, Some, None, Ok, Err, Option, Result}
-use Rattle.std.specs.List.{flat_map, AllByRecursion as All}
+use Rattle.std.specs.List.{flat_map, AllByRecursion}
 use Rattle.change.specs.Totals.{total_of}
 use Rattle.node_state.specs.Nodes.{NodeState, account_at}
 use Rattle.outcome.specs.Acts.{signed_in, both_in, passed_on, key_is, Act, recorded}
@@ -32,7 +32,7 @@ ByRecords = (n : NodeState) (bytes : List ℕ) → Agrees (replayed (records_of 
 -- and finds no damage.
 abbrev pub CutAnywhere : Type 0
 CutAnywhere =
-    (n : NodeState) (rs : List Recorded) (last : Bool × NodeState) → All GoodRecord rs → replayed rs false n ≡ Some last → (cut : ℕ) → (there : Bool × NodeState)
+    (n : NodeState) (rs : List Recorded) (last : Bool × NodeState) → AllByRecursion GoodRecord rs → replayed rs false n ≡ Some last → (cut : ℕ) → (there : Bool × NodeState)
     × (replayed (whole_before cut rs) false n ≡ Some there)
     × (progress_of n (take cut (flat_map record_bytes rs)) ≡ Ok (record { whole = length (flat_map record_bytes (whole_before cut rs)); others = there.0; node = there.1 }))
 

@@ -2,7 +2,7 @@
 use Rattle.std.proofs.Common.{◌≡◌, ℕ, zero, suc, ◌+◌, ◌*◌, ◌<◌, ◌≤◌, List, [], ◌∷◌, ◌++◌, length, take, drop, set, sym, refl, ap, ◌∙◌, add-one, arith, take-add}
 use Rattle.std.proofs.ByRecursion.{All-take, All-drop}
 use Rattle.std.proofs.lemmas.List.{append_assoc, drop_at, drop-drop, length-append, length-drop, length-take-le, take_at, take_more_set}
-use Rattle.std.specs.List.{flat_map, AllByRecursion as All}
+use Rattle.std.specs.List.{flat_map, AllByRecursion}
 use Rattle.sheet.specs.declared.types.Payment.{Payment}
 use Rattle.sheet_bytes.specs.Bytes.{number_bytes, number_of, payment_bytes, payment_of, payments_of}
 use Rattle.sheet_bytes.specs.Theorems.{AreBytes, GoodPayment}
@@ -40,7 +40,7 @@ payment_back p g rest =
     let all : ◌≡◌ {A = Payment} (record { lock = take 32 (payment_bytes p ++ rest); amount = number_of (drop 32 (payment_bytes p ++ rest)); end = number_of (drop 36 (payment_bytes p ++ rest)) }) (record { lock = p.lock; amount = p.amount; end = p.end }) = cc in
     all
 
-pub payments_back : (ps : List Payment) → All GoodPayment ps → (rest : List ℕ) → payments_of (length ps) (flat_map payment_bytes ps ++ rest) ≡ ps
+pub payments_back : (ps : List Payment) → AllByRecursion GoodPayment ps → (rest : List ℕ) → payments_of (length ps) (flat_map payment_bytes ps ++ rest) ≡ ps
 payments_back [] g rest = refl
 payments_back (p ∷ ps) g rest =
     let apart : (payment_bytes p ++ flat_map payment_bytes ps) ++ rest ≡ payment_bytes p ++ (flat_map payment_bytes ps ++ rest) = append_assoc (payment_bytes p) (flat_map payment_bytes ps) rest in
@@ -49,7 +49,7 @@ payments_back (p ∷ ps) g rest =
     let others : payments_of (length ps) (drop 40 ((payment_bytes p ++ flat_map payment_bytes ps) ++ rest)) ≡ ps = ap (payments_of (length ps)) past ∙ payments_back ps g.1 rest in
     cc
 
-pub payments_length : (ps : List Payment) → All GoodPayment ps → length (flat_map payment_bytes ps) ≡ 40 * length ps
+pub payments_length : (ps : List Payment) → AllByRecursion GoodPayment ps → length (flat_map payment_bytes ps) ≡ 40 * length ps
 payments_length [] g = refl
 payments_length (p ∷ ps) g =
     length-append (payment_bytes p) (flat_map payment_bytes ps) ∙ omega (arith, payment_length p g.0, payments_length ps g.1)
@@ -66,7 +66,7 @@ payment_again bs bytes h =
       take-add 32 8 bs ∙ ap (λ cs. take 32 bs ++ cs) split ∙ sym (append_assoc (take 32 bs) (take 4 (drop 32 bs)) (take 4 (drop 36 bs))) ∙ ap (λ cs. take 32 bs ++ cs ++ take 4 (drop 36 bs)) amount.1 ∙ ap (λ cs. take 32 bs ++ number_bytes (number_of (drop 32 bs)) ++ cs) last.1,
     )
 
-pub payments_again : (n : ℕ) (bs : List ℕ) → AreBytes bs → 40 * n ≤ length bs → All GoodPayment (payments_of n bs) × (length (payments_of n bs) ≡ n) × (take (40 * n) bs ≡ flat_map payment_bytes (payments_of n bs))
+pub payments_again : (n : ℕ) (bs : List ℕ) → AreBytes bs → 40 * n ≤ length bs → AllByRecursion GoodPayment (payments_of n bs) × (length (payments_of n bs) ≡ n) × (take (40 * n) bs ≡ flat_map payment_bytes (payments_of n bs))
 payments_again zero bs bytes h = (tt, refl, refl)
 payments_again (suc n) bs bytes h =
     let first = payment_again bs bytes (omega arith) in

@@ -7,7 +7,7 @@ use denote.Laws.{Is}
 use denote.Plain.{UInt}
 use denote.Shadow.{shadow}
 use denote.Struct.Declared.{row}
-use Rattle.std.specs.List.{AllByRecursion as All}
+use Rattle.std.specs.List.{AllByRecursion}
 use Rattle.std.proofs.lemmas.List.{length-take}
 use Rattle.std.proofs.ByRecursion.{All-take}
 use Rattle.sheet.specs.declared.types.Payment.{Payment}
@@ -18,7 +18,7 @@ use Rattle.sheet.specs.Contents.{content_of}
 use Rattle.sheet_bytes.specs.Theorems.{GoodPayment, Good}
 
 -- what is known of each element of an array
-all_known : {X : Type 0} (f : X → List Val → Fml) (P : X → Type 0) → ((x : X) (v : Val) → shadow (f x (v ∷ [])) → P x) → (xs : List X) (vs : List Val) → shadow (each X f xs vs) → All P xs
+all_known : {X : Type 0} (f : X → List Val → Fml) (P : X → Type 0) → ((x : X) (v : Val) → shadow (f x (v ∷ [])) → P x) → (xs : List X) (vs : List Val) → shadow (each X f xs vs) → AllByRecursion P xs
 all_known f P one [] vs h = tt
 all_known f P one (x ∷ xs) [] h = absurd h
 all_known f P one (x ∷ xs) (v ∷ vs) h = (one x v h.0, all_known f P one xs vs h.1)
@@ -35,7 +35,7 @@ payment_good p vs h =
 few : (n : ℕ) (ps : List Payment) → n ≤ 32 → length (take n ps) ≤ 32
 few n ps h = simp length-take (omega arith)
 
-firsts : (n : ℕ) (ps : List Payment) (vs : List Val) → shadow (each Payment (row payments.the_type).own_val ps vs) → All GoodPayment (take n ps)
+firsts : (n : ℕ) (ps : List Payment) (vs : List Val) → shadow (each Payment (row payments.the_type).own_val ps vs) → AllByRecursion GoodPayment (take n ps)
 firsts n ps vs h =
     All-take GoodPayment n ps (all_known (row payments.the_type).own_val GoodPayment (λ p v k. payment_good p (v ∷ []) k) ps vs h)
 

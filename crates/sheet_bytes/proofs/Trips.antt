@@ -3,7 +3,7 @@ use Rattle.std.proofs.Common.{◌≡◌, ℕ, ◌+◌, ◌*◌, ◌<◌, ◌≤�
 use Rattle.std.proofs.ByRecursion.{All-append, All-drop, All-get_or, All-take}
 use Rattle.std.proofs.lemmas.List.{append_assoc, append-nil, drop_at, drop-drop, drop_more, get_or_at, length-append, length-drop, length-take, take-append-drop, take_more, take-take}
 use Rattle.std.proofs.lemmas.Bool.{and_from, and_parts, cond-true, cond-false, le-leb, leb-true}
-use Rattle.std.specs.List.{flat_map, AllByRecursion as All}
+use Rattle.std.specs.List.{flat_map, AllByRecursion}
 use Rattle.refusal.specs.declared.Refusal.{Refusal}
 use Rattle.refusal.specs.declared.Refusal.TheVariants.{Unreadable}
 use Rattle.sheet.specs.declared.types.Payment.{Payment}
@@ -91,7 +91,7 @@ pub round_trip : RoundTrip
 round_trip s g rest = read_back s g rest
 
 -- payments with their count before them, read at a place
-list_again : (at n : ℕ) (bs : List ℕ) → AreBytes bs → get_or bs at 0 ≡ n → at + (1 + 40 * n) ≤ length bs → All GoodPayment (payments_of n (drop (at + 1) bs)) × (length (payments_of n (drop (at + 1) bs)) ≡ n) × (take (1 + 40 * n) (drop at bs) ≡ list_bytes (payments_of n (drop (at + 1) bs)))
+list_again : (at n : ℕ) (bs : List ℕ) → AreBytes bs → get_or bs at 0 ≡ n → at + (1 + 40 * n) ≤ length bs → AllByRecursion GoodPayment (payments_of n (drop (at + 1) bs)) × (length (payments_of n (drop (at + 1) bs)) ≡ n) × (take (1 + 40 * n) (drop at bs) ≡ list_bytes (payments_of n (drop (at + 1) bs)))
 list_again at n bs bytes count h =
     let more : 40 * n ≤ length (drop (at + 1) bs) = simp length-drop (omega arith) in
     let read = payments_again n (drop (at + 1) bs) (All-drop _ (at + 1) bs bytes) more in
@@ -111,13 +111,13 @@ module _ (bs : List ℕ) (bytes : AreBytes bs) (few : ins_of bs ≤ 32) (fewer :
       let first : take 1 bs ≡ get_or bs 0 0 ∷ [] = take_more bs 0 0 (omega arith) in
       take-add 9 4 bs ∙ ap (λ cs. cs ++ take 4 (drop 9 bs)) (take-add 5 4 bs ∙ ap (λ cs. cs ++ take 4 (drop 5 bs)) (take-add 1 4 bs ∙ ap (λ cs. cs ++ take 4 (drop 1 bs)) first ∙ ap (λ cs. (get_or bs 0 0 ∷ []) ++ cs) (number_there 1 (omega arith)).1) ∙ ap (λ cs. (get_or bs 0 0 ∷ []) ++ number_bytes (number_of (drop 1 bs)) ++ cs) (number_there 5 (omega arith)).1) ∙ ap (λ cs. (get_or bs 0 0 ∷ []) ++ number_bytes (number_of (drop 1 bs)) ++ number_bytes (number_of (drop 5 bs)) ++ cs) (number_there 9 (omega arith)).1
 
-  ins_again : All GoodPayment (sheet_of bs).ins × (length (sheet_of bs).ins ≡ ins_of bs) × (take (1 + 40 * ins_of bs) (drop 13 bs) ≡ list_bytes (sheet_of bs).ins)
+  ins_again : AllByRecursion GoodPayment (sheet_of bs).ins × (length (sheet_of bs).ins ≡ ins_of bs) × (take (1 + 40 * ins_of bs) (drop 13 bs) ≡ list_bytes (sheet_of bs).ins)
   ins_again = list_again 13 (ins_of bs) bs bytes refl (omega arith)
 
-  outs_again : All GoodPayment (sheet_of bs).outs × (length (sheet_of bs).outs ≡ outs_of bs) × (take (1 + 40 * outs_of bs) (drop (14 + 40 * ins_of bs) bs) ≡ list_bytes (sheet_of bs).outs)
+  outs_again : AllByRecursion GoodPayment (sheet_of bs).outs × (length (sheet_of bs).outs ≡ outs_of bs) × (take (1 + 40 * outs_of bs) (drop (14 + 40 * ins_of bs) bs) ≡ list_bytes (sheet_of bs).outs)
   outs_again =
       let place : 14 + 40 * ins_of bs + 1 ≡ 15 + 40 * ins_of bs = omega arith in
-      subst (λ k. All GoodPayment (payments_of (outs_of bs) (drop k bs)) × (length (payments_of (outs_of bs) (drop k bs)) ≡ outs_of bs) × (take (1 + 40 * outs_of bs) (drop (14 + 40 * ins_of bs) bs) ≡ list_bytes (payments_of (outs_of bs) (drop k bs)))) place (list_again (14 + 40 * ins_of bs) (outs_of bs) bs bytes refl (omega arith))
+      subst (λ k. AllByRecursion GoodPayment (payments_of (outs_of bs) (drop k bs)) × (length (payments_of (outs_of bs) (drop k bs)) ≡ outs_of bs) × (take (1 + 40 * outs_of bs) (drop (14 + 40 * ins_of bs) bs) ≡ list_bytes (payments_of (outs_of bs) (drop k bs)))) place (list_again (14 + 40 * ins_of bs) (outs_of bs) bs bytes refl (omega arith))
 
   good_again : Good (sheet_of bs)
   good_again =
@@ -160,12 +160,12 @@ number_bytes_lem n = (omega arith, (omega arith, (omega arith, (omega arith, tt)
 both_bytes : (xs ys : List ℕ) → AreBytes xs → AreBytes ys → AreBytes (xs ++ ys)
 both_bytes = All-append (λ b. b < 256)
 
-payments_bytes : (ps : List Payment) → All GoodPayment ps → AreBytes (flat_map payment_bytes ps)
+payments_bytes : (ps : List Payment) → AllByRecursion GoodPayment ps → AreBytes (flat_map payment_bytes ps)
 payments_bytes [] g = tt
 payments_bytes (p ∷ ps) g =
     both_bytes (payment_bytes p) (flat_map payment_bytes ps) (both_bytes (p.lock ++ number_bytes p.amount) (number_bytes p.end) (both_bytes p.lock (number_bytes p.amount) g.0.bytes (number_bytes_lem p.amount)) (number_bytes_lem p.end)) (payments_bytes ps g.1)
 
-list_bytes_lem : (ps : List Payment) → length ps ≤ 32 → All GoodPayment ps → AreBytes (list_bytes ps)
+list_bytes_lem : (ps : List Payment) → length ps ≤ 32 → AllByRecursion GoodPayment ps → AreBytes (list_bytes ps)
 list_bytes_lem ps few g = (omega arith, payments_bytes ps g)
 
 head_bytes_lem : (s : Content) → Good s → AreBytes (head_bytes s)

@@ -1,6 +1,6 @@
 -- What holds of the bytes of sheets: what was written is read back, and nothing else can be read. Assumes nothing.
 use Rattle.std.specs.Prelude.{◌≡◌, ℕ, ◌^◌, ◌<◌, ◌≤◌, List, ◌++◌, length, take, Ok, Err}
-use Rattle.std.specs.List.{AllByRecursion as All}
+use Rattle.std.specs.List.{AllByRecursion}
 use Rattle.refusal.specs.declared.Refusal.TheVariants.{Unreadable}
 use Rattle.sheet.specs.declared.types.Payment.{Payment}
 use Rattle.sheet.specs.Contents.{Content}
@@ -8,7 +8,7 @@ use Rattle.sheet_bytes.specs.Bytes.{sheet_bytes, sheet_read}
 
 -- These numbers are bytes.
 abbrev pub AreBytes : List ℕ → Type 0
-AreBytes = All (λ b. b < 256)
+AreBytes = AllByRecursion (λ b. b < 256)
 
 -- A payment as the code has it: the lock is 32 bytes, and the numbers fit four bytes.
 pub record GoodPayment (p : Payment) : Type 0 where
@@ -26,8 +26,8 @@ pub record Good (s : Content) : Type 0 where
   pub theirs : s.theirs < 2 ^ 32
   pub few_ins : length s.ins ≤ 32
   pub few_outs : length s.outs ≤ 32
-  pub ins : All GoodPayment s.ins
-  pub outs : All GoodPayment s.outs
+  pub ins : AllByRecursion GoodPayment s.ins
+  pub outs : AllByRecursion GoodPayment s.outs
 
 -- Whatever follows a sheet's bytes, reading gives the sheet back and takes just its bytes.
 abbrev pub ReadBack : Content → Type 0

@@ -4,11 +4,11 @@ use base.Fml.{Fml}
 use denote.Array.{each}
 use denote.Plain.{UInt}
 use denote.Shadow.{shadow}
-use Rattle.std.specs.List.{AllByRecursion as All}
+use Rattle.std.specs.List.{AllByRecursion}
 use Rattle.journal.proofs.goods.bytes_good.Goals as goal
 
 -- what is known of each element of an array
-all_known : {X : Type 0} (f : X → List Val → Fml) (P : X → Type 0) → ((x : X) (v : Val) → shadow (f x (v ∷ [])) → P x) → (xs : List X) (vs : List Val) → shadow (each X f xs vs) → All P xs
+all_known : {X : Type 0} (f : X → List Val → Fml) (P : X → Type 0) → ((x : X) (v : Val) → shadow (f x (v ∷ [])) → P x) → (xs : List X) (vs : List Val) → shadow (each X f xs vs) → AllByRecursion P xs
 all_known f P one [] vs h = tt
 all_known f P one (x ∷ xs) [] h = absurd h
 all_known f P one (x ∷ xs) (v ∷ vs) h = (one x v h.0, all_known f P one xs vs h.1)
