@@ -132,7 +132,10 @@ fn write_picture(
 fn perform(rt: &HostRuntime, script: Script, text: Vec<u8>, wanted: &Wanted) -> anyhow::Result<()> {
     let events = match play(rt.alloc(), &script) {
         Ok(events) => events,
-        Err(trouble) => return Err(anyhow!(words_of(trouble))),
+        Err(trouble) => {
+            let words = words_of(trouble);
+            return Err(anyhow!("{words}"));
+        }
     };
     let cast = Cast::new(rt.alloc(), script, text)?;
     let out = told(&cast, events.as_slice(), wanted.json)?;

@@ -32,7 +32,7 @@ payment_eq a b = (bytes_eq a.lock b.lock && (a.amount == b.amount)) && (a.end ==
 abbrev pub content_eq : Content → Content → Bool
 content_eq a b =
     (((((a.account == b.account) && (a.number == b.number)) && (a.own == b.own)) && (a.theirs == b.theirs)) && pointwise payment_eq a.ins b.ins)
-      && pointwise payment_eq a.outs b.outs
+    && pointwise payment_eq a.outs b.outs
 
 -- The payment with a lock: the first one, if there are more.
 abbrev pub found : List ℕ → List Payment → Option Payment

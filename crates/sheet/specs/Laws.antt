@@ -18,10 +18,10 @@ pub content_eq_laws : IsPartialEquivalence content_eq
 content_eq_laws =
     and_per
     (and_per
-     (and_per
-      (and_per (and_per (on_per (λ (s : Content). s.account) nat_eq_laws) (on_per (λ (s : Content). s.number) nat_eq_laws)) (on_per (λ (s : Content). s.own) nat_eq_laws))
-      (on_per (λ (s : Content). s.theirs) nat_eq_laws))
-     (on_per (λ (s : Content). s.ins) (lists_per payment_eq_laws)))
+    (and_per
+    (and_per (and_per (on_per (λ (s : Content). s.account) nat_eq_laws) (on_per (λ (s : Content). s.number) nat_eq_laws)) (on_per (λ (s : Content). s.own) nat_eq_laws))
+    (on_per (λ (s : Content). s.theirs) nat_eq_laws))
+    (on_per (λ (s : Content). s.ins) (lists_per payment_eq_laws)))
     (on_per (λ (s : Content). s.outs) (lists_per payment_eq_laws))
 
 pub sheet_eq_laws : IsPartialEquivalence (on content_of content_eq)
