@@ -1,5 +1,5 @@
 -- What an account means, and what it becomes when a sheet is signed by the node or comes back signed. Assumes nothing.
-use Rattle.std.specs.Prelude.{ℕ, Bool, true, false, cond, not, ◌&&◌, ◌||◌, List, is_some, Some, None, Ok, Err, Option, Result, ◌==◌}
+use Rattle.std.specs.Prelude.{ℕ, Bool, false, cond, not, ◌||◌, List, is_some, Some, None, Ok, Err, Option, Result, ◌==◌}
 use Rattle.refusal.specs.declared.Refusal.{Refusal}
 use Rattle.refusal.specs.declared.Refusal.TheVariants.{NotOpen, UnderWay, Mismatch}
 use Rattle.sheet.specs.declared.types.Payment.{Payment}

@@ -1,18 +1,17 @@
 -- What a case is made of, and when it holds. Assumes nothing.
-use Rattle.std.specs.Prelude.{◌≡◌, ℕ, zero, suc, ◌+◌, ◌-◌, Bool, true, false, not, ◌&&◌, List, [], ◌∷◌, length, is_some, Ok, Err, Result, ◌==◌, nat_le}
+use Rattle.std.specs.Prelude.{◌≡◌, ℕ, zero, suc, ◌+◌, ◌-◌, Bool, true, false, not, ◌&&◌, List, [], ◌∷◌, is_some, Ok, Err, Result, ◌==◌, nat_le}
 use Prim.Native.String.{String}
 use Rattle.std.specs.Str.{bytes_eq}
 use Rattle.refusal.specs.declared.Refusal.{Refusal}
 use Rattle.refusal.specs.Number.{number_of}
 use Rattle.node_state.specs.declared.types.Terms.{Terms}
 use Rattle.node_state.specs.Nodes.{account_at}
-use Rattle.outcome.specs.Outcomes.{Outcome}
 use Rattle.looking.specs.declared.types.Shown.{Shown}
 use Rattle.looking.specs.declared.types.Shown.TheVariants.{Dispute}
 use Rattle.looking.specs.Looking.{any_shown, look_of}
 use Rattle.moments.specs.Runs.{Deposit, Entry, outcome_of}
 use Rattle.moments.specs.Moments.{put_in}
-use Rattle.promise_told.specs.World.{World, node_of, terms_of, Coming, sheet_for, key_for, sent_off, look_acts, picture_of, same_shown, is_true, Event, none_due, tick, entry, looks, happens, run, beginning}
+use Rattle.promise_told.specs.World.{World, node_of, terms_of, Coming, sheet_for, key_for, sent_off, look_acts, picture_of, same_shown, is_true, Event, none_due, tick, entry, looks, happens, beginning}
 use Rattle.promise_told.specs.Main.{settled_by, payout}
 
 -- The node of all cases: 10 in each of accounts 0 and 1, and 10 of each neighbour.

@@ -3,7 +3,6 @@ use Rattle.std.specs.Prelude.{◌≡◌, ℕ, zero, suc, ◌≤◌, List, [], �
 use Rattle.std.proofs.Common.{arith}
 use Rattle.sheet.specs.declared.types.Payment.{Payment}
 use Rattle.sheet.specs.declared.types.Sheet.{Sheet}
-use Rattle.judgement.specs.declared.types.Signature.{Signature}
 use Rattle.rules.specs.declared.types.Message.TheVariants.{Proposed, ProposedSigned, Signed, Key}
 use Rattle.moments.specs.Runs.{Entry, message}
 

@@ -1,6 +1,5 @@
 -- The cases, one row each, and that every row holds. Assumes nothing.
 use Rattle.std.specs.Prelude.{ℕ, zero, suc, ◌+◌, List, [], ◌∷◌, ◌++◌}
-use Rattle.sheet.specs.declared.types.Payment.{Payment}
 use Rattle.rules.specs.declared.types.Call.TheVariants.{Pass, Pay, Get, GiveUp}
 use Rattle.looking.specs.declared.types.Shown.{Shown}
 use Rattle.looking.specs.declared.types.Shown.TheVariants.{Dispute, Key}

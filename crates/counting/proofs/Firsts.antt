@@ -1,14 +1,13 @@
 -- What is read of the first sheets.
-use Rattle.std.proofs.Common.{◌≡◌, ℕ, zero, suc, ◌+◌, ◌*◌, ◌^◌, ◌<◌, ◌≤◌, List, [], ◌∷◌, ◌++◌, length, drop, sym, refl, ap, ◌∙◌, append_assoc, arith}
+use Rattle.std.proofs.Common.{◌≡◌, ℕ, zero, suc, ◌+◌, ◌*◌, ◌^◌, ◌<◌, ◌≤◌, List, [], ◌∷◌, ◌++◌, length, drop, refl, ap, ◌∙◌, append_assoc, arith}
 use Rattle.std.specs.List.{flat_map, AllByRecursion}
 use Rattle.sheet.specs.Contents.{first_of}
 use Rattle.sheet_bytes.specs.Bytes.{head_bytes, sheet_bytes}
 use Rattle.sheet_bytes.specs.Theorems.{Good}
-use Rattle.journal.specs.Records.{Recorded, both_record, record_read, record_bytes}
+use Rattle.journal.specs.Records.{both_record, record_read, record_bytes}
 use Rattle.journal.proofs.One.{record_back}
-use Rattle.node_state.specs.Nodes.{NodeState}
 use Rattle.moments.specs.Runs.{Deposit, deposit_at}
-use Rattle.moments.specs.Moments.{sum_to, put_in}
+use Rattle.moments.specs.Moments.{sum_to}
 use Rattle.counting.specs.Deposits.{own_read, own_first, first_records, FourBytes, DepositsRead}
 
 first_length : (i own theirs : ℕ) → length (record_bytes (both_record (first_of i own theirs))) ≡ 16

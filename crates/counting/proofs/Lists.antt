@@ -1,13 +1,13 @@
 -- Sums over the payments of sheets, and what one lock has in them.
-use Rattle.std.proofs.Common.{◌≡◌, ℕ, zero, suc, ◌+◌, ◌<◌, ◌≤◌, Bool, true, false, cond, not, ◌&&◌, ◌||◌, List, [], ◌∷◌, ◌++◌, length, get_or, sum_by, sym, refl, ap, ◌∙◌, subst, inl, inr, arith}
+use Rattle.std.proofs.Common.{◌≡◌, ℕ, zero, suc, ◌+◌, Bool, true, false, cond, not, ◌&&◌, List, [], ◌∷◌, length, get_or, sum_by, sym, refl, ap, ◌∙◌, arith}
 use Rattle.std.specs.List.{flat_map}
 use Rattle.std.specs.Str.{bytes_eq}
 use Rattle.std.proofs.lemmas.List.Sums.{sum_by-cons, sum_by-append}
 use Rattle.std.proofs.lemmas.Slice.Eq.{bytes_eq-Decides}
 use Rattle.sheet.specs.declared.types.Payment.{Payment}
 use Rattle.sheet.specs.Contents.{Content}
-use Rattle.moments.specs.Moments.{sum_to, those, worth_by, Stands}
-use Rattle.moments.proofs.Sums.{those_cons, those_mono}
+use Rattle.moments.specs.Moments.{sum_to, those, worth_by}
+use Rattle.moments.proofs.Sums.{those_cons}
 use Rattle.counting.specs.Leasts.{with_lock}
 
 -- a sum by place is the sum over the list

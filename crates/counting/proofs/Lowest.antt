@@ -1,5 +1,5 @@
 -- What is found is the least.
-use Rattle.std.proofs.Common.{◌≡◌, ℕ, ◌+◌, ◌<◌, ◌≤◌, Bool, true, false, cond, not, ◌&&◌, ◌||◌, leb, ◌⊎◌, List, [], ◌∷◌, map, length, Some, None, sum_by, Option, sym, refl, ap, ◌∙◌, subst, inl, inr, arith}
+use Rattle.std.proofs.Common.{◌≡◌, ℕ, ◌≤◌, Bool, true, false, not, ◌&&◌, ◌||◌, leb, List, [], ◌∷◌, map, length, Some, None, sum_by, Option, sym, refl, ap, ◌∙◌, subst, inl, inr, arith}
 use Rattle.std.specs.List.{flat_map}
 use Rattle.std.specs.Str.{bytes_eq}
 use Rattle.std.proofs.lemmas.List.Sums.{sum_by-cons}
@@ -7,15 +7,13 @@ use Rattle.std.proofs.lemmas.Bool.{cond_both, and_parts, or_cases, leb-true, bot
 use Rattle.sheet.specs.declared.types.Payment.{Payment}
 use Rattle.sheet.specs.Contents.{Content, first_of}
 use Rattle.account.specs.Accounts.{Standing, opened_of}
-use Rattle.change.specs.Totals.{amounts}
 use Rattle.change.proofs.Standing.{none_some, same_some}
 use Rattle.node_state.specs.Nodes.{NodeState, account_at}
 use Rattle.judgement.specs.Tests.{has_key}
 use Rattle.moments.specs.Moments.{sum_to, those, worth_by, Counts}
 use Rattle.moments.proofs.Sums.{sum_mono}
-use Rattle.counting.specs.Outcomes.{outcome_of, Chosen}
-use Rattle.counting.specs.Orders.{is_part, is_beside, is_below, in_order, is_orderly, Orderly, lesser_of, lesser}
-use Rattle.counting.specs.Leasts.{ins_with, outs_with, is_worse_shown, least_by, lessers, least_of}
+use Rattle.counting.specs.Orders.{is_part, is_beside, is_below, in_order, is_orderly, lesser_of, lesser}
+use Rattle.counting.specs.Leasts.{outs_with, is_worse_shown, least_by, lessers}
 use Rattle.counting.specs.Theorems.{FoundIsLeast}
 use Rattle.counting.proofs.Lists.{sum_places, those_joined, worth_joined}
 use Rattle.counting.proofs.Hiding.{worse_least, worse_known}

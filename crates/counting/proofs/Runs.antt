@@ -1,5 +1,5 @@
 -- The sheets of every node of every run are in order, and the least is not below what was put in.
-use Rattle.std.proofs.Common.{◌≡◌, ℕ, ◌<◌, ◌≤◌, Bool, true, ◌||◌, List, [], length, set, ℤ, pos, ◌-ℤ◌, ◌≤ℤ◌, Option, sym, refl, ap, ◌∙◌, subst, arith}
+use Rattle.std.proofs.Common.{◌≡◌, ℕ, ◌≤◌, true, ◌||◌, List, [], set, ℤ, pos, ◌-ℤ◌, ◌≤ℤ◌, Option, refl, ap, ◌∙◌, arith}
 use Rattle.std.proofs.lemmas.Int.{ints}
 use Rattle.sheet.specs.Contents.{Content, first_of}
 use Rattle.account.specs.Accounts.{Standing, opened_of, signed_of, held_of}
@@ -7,13 +7,12 @@ use Rattle.change.specs.declared.types.Change.TheVariants.{Offered, PassingOn, P
 use Rattle.node_state.specs.declared.types.Terms.{Terms}
 use Rattle.node_state.specs.Nodes.{NodeState, account_at}
 use Rattle.judgement.specs.Tests.{has_key}
-use Rattle.moments.specs.Runs.{Deposit, Event, after, start_of, node_after}
-use Rattle.moments.specs.Moments.{sum_to, worth_by, put_in, Counts}
+use Rattle.moments.specs.Runs.{Deposit, after, start_of, node_after}
+use Rattle.moments.specs.Moments.{sum_to, worth_by}
 use Rattle.moments.specs.Moves.{Move, offered, passes, pays, gets, returned, gives_up, holds, marked, learns, passing, Reached, begin, then}
 use Rattle.moments.proofs.Places.{at_put}
 use Rattle.moments.proofs.Keeps.{same_at, opened}
 use Rattle.moments.proofs.Theorems.{runs_reached, run_whole, never_less}
-use Rattle.counting.specs.Outcomes.{IsLeast}
 use Rattle.counting.specs.Orders.{in_order, is_orderly}
 use Rattle.counting.specs.Theorems.{RunsOrderly, NotBelow, NotNegative}
 use Rattle.counting.proofs.Firsts.{deposits_read}

@@ -1,6 +1,6 @@
 -- How the least is found: the lesser sheet of each account, and for each lock whether its key is better hidden or shown.
 -- Assumes nothing.
-use Rattle.std.specs.Prelude.{ℕ, ◌+◌, Bool, not, ◌||◌, List, map, sum_by, nat_le}
+use Rattle.std.specs.Prelude.{ℕ, Bool, ◌||◌, List, map, sum_by, nat_le}
 use Rattle.std.specs.Str.{bytes_eq}
 use Rattle.sheet.specs.declared.types.Payment.{Payment}
 use Rattle.sheet.specs.Contents.{Content}

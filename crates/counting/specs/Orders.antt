@@ -1,5 +1,5 @@
 -- Which of an account's two sheets is never worth more than the other, whichever keys are shown. Assumes nothing.
-use Rattle.std.specs.Prelude.{◌≡◌, ℕ, ◌+◌, ◌-◌, ◌<◌, Bool, true, false, cond, ◌&&◌, ◌||◌, List, [], ◌∷◌, length, Some, None, Option, ◌==◌, nat_le}
+use Rattle.std.specs.Prelude.{◌≡◌, ℕ, ◌+◌, ◌-◌, ◌<◌, Bool, true, cond, ◌&&◌, ◌||◌, List, [], ◌∷◌, length, Some, None, Option, ◌==◌, nat_le}
 use Rattle.sheet.specs.declared.types.Payment.{Payment}
 use Rattle.sheet.specs.Contents.{Content}
 use Rattle.account.specs.Accounts.{Standing}

@@ -9,7 +9,7 @@ use Rattle.outcome.specs.Logs.{extended, Begun}
 use Rattle.outcome.specs.Records.{acted_all, acted_on}
 use Rattle.looking.specs.declared.types.Shown.{Shown}
 use Rattle.looking.specs.declared.types.Shown.TheVariants.{Dispute, Key}
-use Rattle.looking.specs.Looking.{new_keys, then_synced, learned, learning}
+use Rattle.looking.specs.Looking.{new_keys, then_synced, learned}
 use Rattle.looking.specs.Steps.{is_something}
 use Rattle.looking.proofs.Doing.{Left, left_less, left_failed, begun_first, second_failed, both_done}
 

@@ -1,5 +1,5 @@
 -- A look that is taken: new keys, what is shown, and what the accounts keep.
-use Rattle.std.proofs.Common.{◌≡◌, ℕ, true, List, ◌++◌, is_err, Ok, Err, Result, sym, ap, ◌∙◌, subst}
+use Rattle.std.proofs.Common.{◌≡◌, ℕ, true, List, is_err, Ok, Err, Result, ap, ◌∙◌, subst}
 use Rattle.node_state.specs.Nodes.{NodeState, with_accounts}
 use Rattle.outcome.specs.declared.types.Fault.{Fault}
 use Rattle.outcome.specs.Acts.{Act}

@@ -1,6 +1,5 @@
 -- A log with acts after it, one by one and all at once.
-use Rattle.std.proofs.Common.{◌≡◌, suc, List, [], ◌∷◌, ◌++◌, sym, ◌∙◌, inl, inr, append_assoc, append-nil}
-use Rattle.outcome.specs.Acts.{Act}
+use Rattle.std.proofs.Common.{suc, [], ◌∷◌, ◌++◌, sym, ◌∙◌, inl, inr, append_assoc, append-nil}
 use Rattle.outcome.specs.Logs.{ExtendedIsAppended, BegunIsFirstPart}
 
 pub extended_appended : ExtendedIsAppended

@@ -6,7 +6,7 @@ use Rattle.digest.specs.Sha256.{sha256}
 use Rattle.account.specs.Accounts.{Standing}
 use Rattle.node_state.specs.declared.types.Terms.{Terms}
 use Rattle.node_state.specs.Nodes.{account_at}
-use Rattle.register.specs.Register.{Phase, quiet, disputed, ended, KeyAt, shown_in_time, payout_of, is_settled}
+use Rattle.register.specs.Register.{Phase, quiet, disputed, ended, KeyAt, payout_of, is_settled}
 use Rattle.moments.specs.Runs.{Deposit}
 use Rattle.moments.specs.Moments.{Counts, In, Out, is_from, sum_to, put_in}
 use Rattle.promise.specs.World.{World, node_of, terms_of, Event, world_after}

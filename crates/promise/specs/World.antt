@@ -1,5 +1,5 @@
 -- The world of a run: the node, the register, what is between them, and time; and what can happen in it. Assumes nothing.
-use Rattle.std.specs.Prelude.{ℕ, zero, suc, ◌+◌, Bool, true, false, cond, ◌&&◌, List, [], ◌∷◌, ◌++◌, map, length, take, drop, Some, None, Option, ◌==◌, nat_lt}
+use Rattle.std.specs.Prelude.{ℕ, zero, suc, ◌+◌, Bool, true, cond, ◌&&◌, List, [], ◌∷◌, ◌++◌, map, length, take, drop, Some, None, Option, ◌==◌, nat_lt}
 use Rattle.std.specs.List.{slice_get}
 use Rattle.sheet.specs.Contents.{Content, first_of}
 use Rattle.node_state.specs.declared.types.Terms.{Terms}
@@ -9,7 +9,7 @@ use Rattle.outcome.specs.Records.{acted_all}
 use Rattle.looking.specs.declared.types.Shown.{Shown}
 use Rattle.looking.specs.declared.types.Shown.TheVariants.{Dispute, Key}
 use Rattle.looking.specs.Looking.{is_refused, look_of, looked_node}
-use Rattle.register.specs.Register.{Phase, quiet, disputed, ended, KeyAt, Page, blank, sheet_shown, key_shown, turned_to}
+use Rattle.register.specs.Register.{Phase, quiet, disputed, ended, Page, blank, sheet_shown, key_shown, turned_to}
 use Rattle.moments.specs.Runs.{Deposit, Entry, outcome_of, started_again, History, after_acts, with_node, start_of}
 
 -- What the node has sent to the register and isn't in it yet, with the tick by which it is.

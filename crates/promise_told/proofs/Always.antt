@@ -1,13 +1,11 @@
 -- The invariant about time holds in every run; so the promise does.
-use Rattle.std.proofs.Common.{◌≡◌, ℕ, Bool, true, false, cond, List, [], ◌∷◌, length, sym, refl, ap, ◌∙◌, subst}
+use Rattle.std.proofs.Common.{List, [], ◌∷◌, sym, refl, ap, ◌∙◌, subst}
 use Rattle.std.proofs.lemmas.Bool.{cond_both}
 use Rattle.node_state.specs.declared.types.Terms.{Terms}
-use Rattle.looking.specs.declared.types.Shown.{Shown}
-use Rattle.moments.specs.Runs as alone
 use Rattle.moments.specs.Runs.{Deposit, History, start_of}
 use Rattle.moments.proofs.Whole.{Whole}
 use Rattle.moments.proofs.Theorems.{run_whole, passed_on_pays, no_lock_twice}
-use Rattle.promise_told.specs.World.{World, node_of, terms_of, Event, tick, entry, looks, shows, reveals, arrives, restart, entry_cut, look_cut, may_tick, ticked, is_true, looked, looked_in_part, happens, run, world_after, beginning}
+use Rattle.promise_told.specs.World.{World, node_of, terms_of, Event, tick, entry, looks, shows, reveals, arrives, restart, entry_cut, look_cut, may_tick, ticked, is_true, looked, looked_in_part, happens, run, beginning}
 use Rattle.promise_told.specs.Main.{Holds, Main, NoOlder, DecidedEarly, InTime}
 use Rattle.promise_told.proofs.Replays.{By, by_then, happens_by_lem}
 use Rattle.promise_told.proofs.Follows.{after_terms, main_from}

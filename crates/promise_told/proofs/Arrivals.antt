@@ -1,5 +1,5 @@
 -- What was on its way comes into the register: the invariant about time is kept.
-use Rattle.std.proofs.Common.{◌≡◌, ℕ, zero, suc, ◌+◌, ◌*◌, ◌<◌, ◌≤◌, Bool, true, false, cond, ◌&&◌, eqb, ltb, leb, ◌⊎◌, List, [], ◌∷◌, ◌++◌, length, take, drop, Some, None, Option, sym, refl, ap, ◌∙◌, subst, inl, inr, add-one, arith}
+use Rattle.std.proofs.Common.{◌≡◌, ℕ, zero, suc, ◌<◌, ◌≤◌, false, cond, ◌&&◌, eqb, ltb, ◌⊎◌, List, [], ◌∷◌, ◌++◌, length, take, drop, Some, None, Option, sym, refl, ap, ◌∙◌, subst, inl, inr, add-one, arith}
 use Rattle.std.proofs.lemmas.Slice.Eq.{bytes_eq-Decides}
 use Rattle.std.proofs.lemmas.Bool.{cond_both, cond-true, and_cases, ltb-false, lt-ltb, eq-eqb, both_ways}
 use Rattle.std.specs.List.{slice_get}
@@ -7,13 +7,12 @@ use Rattle.std.specs.Str.{bytes_eq}
 use Rattle.sheet.specs.declared.types.Payment.{Payment}
 use Rattle.sheet.specs.Contents.{Content}
 use Rattle.digest.specs.Sha256.{sha256}
-use Rattle.account.specs.Accounts.{Standing}
 use Rattle.node_state.specs.Nodes.{account_at}
 use Rattle.register.specs.Register.{Phase, quiet, disputed, ended, KeyAt, Page, with_sheet, sheet_shown, key_shown, with_key_at}
 use Rattle.moments.specs.Runs.{Deposit}
 use Rattle.promise_told.specs.World.{World, Coming, sheet_for, key_for, node_of, terms_of, with_coming, sheet_in, key_in, came_in, arrived}
 use Rattle.promise_told.specs.Main.{Holds, KeyBy}
-use Rattle.promise_told.proofs.Safe.{OnWay, WasSigned, HeldGoes, Calm, Opening, Unseen, Seen, Decided, SafeIn, Safe, Through, Shows, Timely, shows_timely, reveals_timely}
+use Rattle.promise_told.proofs.Safe.{OnWay, WasSigned, HeldGoes, SafeIn, Safe, Through, Shows, Timely, shows_timely, reveals_timely}
 
 -- what stands at a place, and the rest
 abbrev without : ℕ → List Coming → List Coming

@@ -1,16 +1,15 @@
 -- The beginning has the invariant about time.
-use Rattle.std.proofs.Common.{◌≡◌, ℕ, zero, suc, ◌+◌, ◌<◌, ◌≤◌, ◌⊎◌, List, [], ◌∷◌, length, get_or, Some, None, Option, sym, refl, ap, ◌∙◌, subst, inl, inr, arith}
+use Rattle.std.proofs.Common.{◌≡◌, ℕ, zero, suc, ◌+◌, ◌<◌, ◌≤◌, List, [], ◌∷◌, length, get_or, sym, refl, ap, ◌∙◌, subst, inl, inr, arith}
 use Rattle.sheet.specs.declared.types.Payment.{Payment}
 use Rattle.sheet.specs.Contents.{Content, first_of}
-use Rattle.account.specs.declared.types.OnItsWay.{OnItsWay}
 use Rattle.account.specs.Accounts.{Standing, opened_of}
 use Rattle.node_state.specs.declared.types.Terms.{Terms}
 use Rattle.node_state.specs.Nodes.{account_at}
 use Rattle.change.proofs.Standing.{none_some}
 use Rattle.moments.specs.Runs.{Deposit, deposit_at, opened_all, start_of}
 use Rattle.moments.specs.Moments.{Counts, In, Out, Stands}
-use Rattle.promise_told.specs.World.{World, node_of, terms_of, first_signed, beginning}
-use Rattle.promise_told.proofs.Safe.{WasSigned, Calm, Safe, Timely}
+use Rattle.promise_told.specs.World.{first_signed, beginning}
+use Rattle.promise_told.proofs.Safe.{WasSigned, Safe, Timely}
 
 -- the accounts at the start, and what was signed by then
 opened_at : (ds : List Deposit) (j i : ℕ) (d : Standing) → i < length ds → get_or (opened_all j ds) i d ≡ opened_of (first_of (j + i) (deposit_at ds i).own (deposit_at ds i).theirs)

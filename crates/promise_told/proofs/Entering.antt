@@ -1,20 +1,18 @@
 -- A message or a call, and any first part of its acts, keeps the invariant about time.
-use Rattle.std.proofs.Common.{◌≡◌, ℕ, zero, suc, ◌+◌, ◌*◌, ◌<◌, ◌≤◌, Bool, true, false, cond, not, ◌||◌, ◌⊎◌, List, [], ◌∷◌, ◌++◌, length, get_or, take, set, is_some, Some, None, Option, unwrap_or, sym, refl, ap, ◌∙◌, subst, inl, inr, append-nil, arith, length-set}
+use Rattle.std.proofs.Common.{◌≡◌, ℕ, ◌+◌, ◌<◌, ◌≤◌, Bool, true, false, ◌⊎◌, List, [], ◌∷◌, ◌++◌, length, get_or, set, Some, None, Option, sym, refl, ap, ◌∙◌, subst, inl, inr, arith}
 use Rattle.std.proofs.lemmas.List.{get_or-set_same, get_or-set_other}
-use Rattle.std.proofs.lemmas.Bool.{both_ways, cases_eq, cond_both}
+use Rattle.std.proofs.lemmas.Bool.{cases_eq, cond_both}
 use Rattle.std.proofs.lemmas.Slice.Eq.{bytes_eq-Decides}
 use Rattle.std.specs.Str.{bytes_eq}
 use Rattle.sheet.specs.declared.types.Payment.{Payment}
-use Rattle.sheet.specs.Contents.{Content, content_of, first_of}
+use Rattle.sheet.specs.Contents.{Content, first_of}
 use Rattle.digest.specs.Sha256.{sha256}
-use Rattle.account.specs.declared.types.OnItsWay.{OnItsWay}
 use Rattle.account.specs.Accounts.{Standing, is_frozen, opened_of, signed_of, held_of}
 use Rattle.change.proofs.Standing.{none_some, same_some}
 use Rattle.lockmap.specs.Maps.{with_at}
 use Rattle.node_state.specs.declared.types.Route.{Route}
 use Rattle.node_state.specs.Nodes.{NodeState, account_at}
-use Rattle.register.specs.Register.{Phase, quiet, disputed, ended}
-use Rattle.moments.specs.Runs.{Deposit, History}
+use Rattle.moments.specs.Runs.{Deposit}
 use Rattle.moments.specs.Moments.{Counts, Stands, In, Out, is_from}
 use Rattle.moments.specs.Moves.{Ready}
 use Rattle.moments.proofs.Places.{counts_signed}

@@ -1,19 +1,18 @@
 -- In every run of the world the node's file says what it is after a stop.
-use Rattle.std.proofs.Common.{◌≡◌, ℕ, zero, suc, ◌+◌, Bool, true, false, cond, ◌||◌, ltb, ◌⊎◌, List, [], ◌∷◌, ◌++◌, map, take, Some, None, Option, sym, refl, ap, ◌∙◌, subst, inl, inr}
+use Rattle.std.proofs.Common.{◌≡◌, ℕ, ◌+◌, Bool, true, false, cond, ltb, ◌⊎◌, List, [], ◌∷◌, ◌++◌, map, take, Some, None, Option, sym, refl, ap, ◌∙◌, inl, inr}
 use Rattle.std.proofs.lemmas.Bool.{cond_both, cond-true, cond-false, or_cases, or_parts}
 use Rattle.std.specs.List.{slice_get}
 use Rattle.refusal.specs.declared.Refusal.TheVariants.{Unreadable, TooLarge}
 use Rattle.change.specs.Changes.{most}
 use Rattle.account.specs.Accounts.{Standing}
-use Rattle.node_state.specs.declared.types.Terms.{Terms}
 use Rattle.node_state.specs.Nodes.{NodeState, with_accounts}
-use Rattle.outcome.specs.Acts.{Record, Act, recorded, synced, sent_sheet, sent_signature, shown_sheet, shown_key}
+use Rattle.outcome.specs.Acts.{Record, Act, shown_sheet, shown_key}
 use Rattle.outcome.specs.Records.{acted_all}
 use Rattle.outcome.specs.Outcomes.{refused, done}
 use Rattle.looking.specs.declared.types.Shown.{Shown}
 use Rattle.looking.specs.Looking.{shows_held, learned, showing, showing_all, keys_to_show, look_taken, is_earlier, is_refused, look_of, looked_of, each_from, looked_node}
 use Rattle.looking.specs.Looking as look
-use Rattle.moments.specs.Runs.{Deposit, each_of, restarted_of, started_again, outcome_of, start_of}
+use Rattle.moments.specs.Runs.{each_of, restarted_of, started_again, outcome_of, start_of}
 use Rattle.moments.specs.Records.{records_of, written_all}
 use Rattle.moments.proofs.Replays.{written_append, again_acts, again_passing, again_opened}
 use Rattle.promise_told.specs.World.{World, node_of, Coming, sheet_for, key_for, Signed, shown, arrived, Event, tick, entry, looks, shows, reveals, arrives, restart, entry_cut, look_cut, may_tick, ticked, is_true, look_acts, looked, looked_in_part, happens, run, beginning}

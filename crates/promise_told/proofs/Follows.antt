@@ -13,12 +13,12 @@ use Rattle.node_state.specs.Nodes.{NodeState, account_at}
 use Rattle.outcome.specs.Acts.{signed_in, both_in, passed_on, key_is, Act, recorded, synced, sent_sheet, sent_signature, shown_sheet, shown_key}
 use Rattle.outcome.specs.Records.{acted_all, written}
 use Rattle.looking.specs.Looking.{is_among}
-use Rattle.register.specs.Register.{Phase, quiet, disputed, ended, KeyAt, Page, shown_in_time, amounts_of, paid_out, all_over}
+use Rattle.register.specs.Register.{Phase, quiet, disputed, ended, KeyAt, Page, shown_in_time, amounts_of, all_over}
 use Rattle.moments.specs.Runs as alone
 use Rattle.moments.specs.Runs.{Deposit, History, start_of, outcome_of}
 use Rattle.moments.specs.Moments.{Counts, Stands, In, Out, Payments, NoLockTwice, Choice, is_from, AllShown, sum_to, those, worth_by, put_in, PassedOnPays}
 use Rattle.promise_told.specs.World.{World, node_of, terms_of, Event, world_after}
-use Rattle.promise_told.specs.Main.{Holds, none_of, is_bare, settled_by, payout_by, payout, Main, NoOlder, DecidedEarly, Among, KeyBy, Bound, InTime}
+use Rattle.promise_told.specs.Main.{none_of, settled_by, payout_by, payout, Main, NoOlder, DecidedEarly, Among, KeyBy, Bound, InTime}
 use Rattle.promise_told.proofs.Replays.{node_alone}
 
 -- the terms stay

@@ -1,5 +1,5 @@
 -- Every event of the world is, for the node, a list of events of its own.
-use Rattle.std.proofs.Common.{◌≡◌, ℕ, zero, suc, ◌+◌, Bool, true, false, cond, ◌||◌, ltb, List, [], ◌∷◌, ◌++◌, map, get_or, take, Some, None, Option, sym, refl, ap, ◌∙◌, subst, arith}
+use Rattle.std.proofs.Common.{◌≡◌, ℕ, zero, suc, ◌+◌, Bool, false, cond, ◌||◌, ltb, List, [], ◌∷◌, ◌++◌, map, get_or, take, Some, None, Option, sym, refl, ap, ◌∙◌, subst, arith}
 use Rattle.std.proofs.lemmas.Bool.{cond_both}
 use Rattle.std.specs.List.{slice_get}
 use Rattle.refusal.specs.declared.Refusal.TheVariants.{Unreadable, TooLarge}
@@ -8,7 +8,6 @@ use Rattle.digest.specs.Sha256.{sha256}
 use Rattle.change.specs.Changes.{most}
 use Rattle.account.specs.Accounts.{Standing, opened_of}
 use Rattle.account.specs.declared.types.OnItsWay.{OnItsWay}
-use Rattle.node_state.specs.declared.types.Terms.{Terms}
 use Rattle.node_state.specs.Nodes.{NodeState, account_at, with_accounts, with_key}
 use Rattle.judgement.specs.Tests.{has_key}
 use Rattle.outcome.specs.Acts.{signed_in, both_in, passed_on, key_is, Act, recorded, synced, sent_sheet, sent_signature, shown_sheet, shown_key}
@@ -21,7 +20,7 @@ use Rattle.looking.specs.Looking.{has_dispute, opens, shows_held, still_sent, ne
 use Rattle.looking.specs.Looking as look
 use Rattle.moments.specs.Runs as alone
 use Rattle.moments.specs.Runs.{Deposit, message, each_of, History, with_node, start_of, started_again}
-use Rattle.promise_told.specs.World.{World, node_of, Event, tick, entry, looks, shows, reveals, arrives, restart, entry_cut, look_cut, Signed, Coming, sheet_for, key_for, shown, arrived, looked, ticked, may_tick, acted, with_due, look_acts, looked_in_part, is_true, happens, run, world_after, beginning}
+use Rattle.promise_told.specs.World.{World, node_of, Event, tick, entry, looks, shows, reveals, arrives, restart, entry_cut, look_cut, Signed, Coming, sheet_for, key_for, shown, arrived, looked, ticked, may_tick, look_acts, looked_in_part, is_true, happens, run, beginning}
 use Rattle.promise_told.specs.Replay.{NodeAlone}
 
 -- reached from a history by events of the node alone

@@ -1,27 +1,19 @@
 -- What one record of an entry makes of the world keeps the invariant about time.
-use Rattle.std.proofs.Common.{◌≡◌, ℕ, zero, suc, ◌+◌, ◌*◌, ◌<◌, ◌≤◌, Bool, true, false, cond, not, ◌||◌, ◌⊎◌, List, [], ◌∷◌, ◌++◌, length, get_or, set, is_some, Some, None, Option, sym, refl, ap, ◌∙◌, subst, inl, inr, arith}
-use Rattle.std.proofs.lemmas.List.{get_or-set_same, get_or-set_other}
-use Rattle.std.proofs.lemmas.Bool.{both_ways, cases_eq, cond_both}
-use Rattle.std.proofs.lemmas.Slice.Eq.{bytes_eq-Decides}
-use Rattle.std.specs.Str.{bytes_eq}
+use Rattle.std.proofs.Common.{◌≡◌, ℕ, ◌+◌, ◌<◌, ◌≤◌, true, false, ◌⊎◌, List, length, Some, Option, sym, ap, ◌∙◌, subst, inl, inr}
+use Rattle.std.proofs.lemmas.Bool.{both_ways}
 use Rattle.sheet.specs.declared.types.Payment.{Payment}
-use Rattle.sheet.specs.Contents.{Content, first_of}
+use Rattle.sheet.specs.Contents.{Content}
 use Rattle.digest.specs.Sha256.{sha256}
-use Rattle.account.specs.declared.types.OnItsWay.{OnItsWay}
-use Rattle.account.specs.Accounts.{Standing, is_frozen, opened_of, signed_of, held_of}
-use Rattle.change.proofs.Standing.{none_some, same_some}
-use Rattle.lockmap.specs.Maps.{with_at}
+use Rattle.account.specs.Accounts.{Standing, is_frozen}
 use Rattle.node_state.specs.declared.types.Route.{Route}
 use Rattle.node_state.specs.Nodes.{NodeState, account_at}
 use Rattle.looking.specs.Looking.{is_past}
 use Rattle.register.specs.Register.{Phase, quiet, disputed, ended}
-use Rattle.moments.specs.Runs.{Deposit, History}
+use Rattle.moments.specs.Runs.{Deposit}
 use Rattle.moments.specs.Moments.{Counts, Stands, In, Out, is_from}
-use Rattle.moments.specs.Moves.{Ready}
-use Rattle.moments.proofs.Places.{counts_signed}
 use Rattle.promise_told.specs.World.{World, Signed, sheet_for, node_of, terms_of}
 use Rattle.promise_told.specs.Main.{Bound}
-use Rattle.promise_told.proofs.Safe.{OnWay, WasSigned, OutsBy, HeldGoes, Calm, Opening, Unseen, Seen, Decided, SafeIn, Safe, Through, Timely}
+use Rattle.promise_told.proofs.Safe.{OnWay, WasSigned, OutsBy, HeldGoes, SafeIn, Safe, Through, Timely}
 
 -- the world with these accounts, keys, routes, locks paid for and sheets signed
 abbrev pub entered : World → List Standing → (List ℕ → Option (List ℕ)) → (List ℕ → Option Route) → List (List ℕ) → List Signed → World

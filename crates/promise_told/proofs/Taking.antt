@@ -1,8 +1,7 @@
 -- Each entry, whole or cut off after some of its acts, keeps the invariant about time.
-use Rattle.std.proofs.Common.{◌≡◌, ℕ, zero, suc, ◌+◌, ◌*◌, ◌<◌, ◌≤◌, Bool, true, false, cond, not, ◌||◌, ◌⊎◌, List, [], ◌∷◌, ◌++◌, length, get_or, take, set, is_some, Some, None, Ok, Err, Option, Result, unwrap_or, sym, refl, ap, ◌∙◌, subst, inl, inr, arith}
+use Rattle.std.proofs.Common.{◌≡◌, ℕ, ◌+◌, ◌*◌, ◌<◌, ◌≤◌, Bool, true, false, not, ◌⊎◌, List, [], ◌∷◌, ◌++◌, length, get_or, take, set, is_some, Some, None, Ok, Option, unwrap_or, sym, refl, ap, ◌∙◌, subst, inl, inr, arith}
 use Rattle.std.proofs.lemmas.List.{get_or-set_same, get_or_past, length-set, append-nil}
-use Rattle.std.proofs.lemmas.Bool.{both_ways, cases_lt, cond_both, or_parts, not-false}
-use Rattle.refusal.specs.declared.Refusal.{Refusal}
+use Rattle.std.proofs.lemmas.Bool.{cases_lt, cond_both, or_parts}
 use Rattle.refusal.specs.declared.Refusal.TheVariants.{LockUsed, KeyMissing}
 use Rattle.sheet.specs.declared.types.Payment.{Payment}
 use Rattle.sheet.specs.Contents.{Content, content_of, first_of}
@@ -20,16 +19,16 @@ use Rattle.node_state.specs.declared.types.Route.{Route}
 use Rattle.node_state.specs.Nodes.{NodeState, account_at, any_has}
 use Rattle.lockmap.specs.Maps.{with_at}
 use Rattle.judgement.specs.declared.types.Signature.{Signature}
-use Rattle.judgement.specs.Tests.{unless, is_under_way, has_key, used_in, looked_at}
+use Rattle.judgement.specs.Tests.{is_under_way, has_key, used_in, looked_at}
 use Rattle.judgement.specs.Judgements.{only_lock, to_settle, to_give_up, to_pass, in_own_view, proposed_as, proposed_by, to_accept, to_accept_both, to_hold}
 use Rattle.outcome.specs.Acts.{signed_in, both_in, passed_on, key_is, Act, recorded, synced, sent_sheet, sent_signature, shown_sheet, shown_key}
 use Rattle.outcome.specs.Records.{acted_all, written}
-use Rattle.outcome.specs.Outcomes.{Outcome, refused, done, signing, passing, accepting, accepting_both, holding, learning}
+use Rattle.outcome.specs.Outcomes.{Outcome, done, accepting_both, holding, learning}
 use Rattle.rules.specs.declared.types.Message.TheVariants.{Proposed, ProposedSigned, Signed, Key}
 use Rattle.rules.specs.declared.types.Call.TheVariants.{Pass, Pay, Get, GiveUp}
 use Rattle.rules.specs.Entries.{paid, got, given_up, passed, proposed, proposed_signed, signed, key_taken}
 use Rattle.moments.specs.Runs.{Deposit, History, Entry, message, call, outcome_of, after_acts}
-use Rattle.moments.specs.Moments.{Counts, Stands, In, Out, Payments, is_from}
+use Rattle.moments.specs.Moments.{Stands, In, Out}
 use Rattle.moments.specs.Moves.{Ready, MayPass}
 use Rattle.moments.proofs.Sums.{taken_stands, taken_stood, added_stands}
 use Rattle.moments.proofs.Places.{is_none}
@@ -37,8 +36,8 @@ use Rattle.moments.proofs.Whole.{Whole}
 use Rattle.moments.proofs.Entries.{Prefixes, prefix_whole, prefix_part, ok_err, unless_ok, signing_by, passing_by, accepting_by, both_by, holding_by, open_unfrozen, ready_by, settle_ok, give_ok, pass_ok, accept_ok, signed_next, signed_new, both_ok, hold_ok}
 use Rattle.promise_told.specs.World as world
 use Rattle.promise_told.specs.World.{World, node_of, terms_of, acted, restarted}
-use Rattle.promise_told.specs.Main.{Holds, Among, Bound}
-use Rattle.promise_told.proofs.Safe.{Safe, Timely, restart_timely}
+use Rattle.promise_told.specs.Main.{Holds, Bound}
+use Rattle.promise_told.proofs.Safe.{Timely, restart_timely}
 use Rattle.promise_told.proofs.Steps.{entered, open_outs}
 use Rattle.promise_told.proofs.Entering.{signed_timely, both_timely, route_timely, key_timely}
 

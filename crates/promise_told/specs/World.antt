@@ -10,7 +10,7 @@ use Rattle.outcome.specs.Records.{acted_all}
 use Rattle.looking.specs.declared.types.Shown.{Shown}
 use Rattle.looking.specs.declared.types.Shown.TheVariants.{Dispute, Key}
 use Rattle.looking.specs.Looking.{any_shown, is_refused, look_of, looked_node}
-use Rattle.register.specs.Register.{Phase, quiet, disputed, ended, KeyAt, Page, blank, sheet_shown, key_shown, turned_to}
+use Rattle.register.specs.Register.{Phase, quiet, disputed, ended, Page, blank, sheet_shown, key_shown, turned_to}
 use Rattle.moments.specs.Runs.{Deposit, Entry, outcome_of, started_again, History, after_acts, with_node, start_of}
 
 -- What the node has sent to the register and isn't in it yet, with the tick by which it is.

@@ -3,12 +3,12 @@ use Rattle.std.proofs.Common.{◌≡◌, ℕ, ◌+◌, ◌<◌, ◌≤◌, Bool,
 use Rattle.std.specs.Str.{bytes_eq}
 use Rattle.std.proofs.lemmas.List.{append_assoc, append-nil}
 use Rattle.std.proofs.lemmas.List.Sums.{sum_by-cons}
-use Rattle.std.proofs.lemmas.Bool.{true≢false, ltb-true, ltb-false, leb-true, leb-false, lt-ltb, le-leb, lt-leb, and_parts, and_from, cond_both}
+use Rattle.std.proofs.lemmas.Bool.{true≢false, ltb-true, ltb-false, leb-true, lt-ltb, le-leb, lt-leb, and_parts, and_from, cond_both}
 use Rattle.sheet.specs.declared.types.Payment.{Payment}
-use Rattle.sheet.specs.Contents.{Content, turned_of}
+use Rattle.sheet.specs.Contents.{Content}
 use Rattle.digest.specs.Sha256.{sha256}
-use Rattle.register.specs.Register.{Phase, quiet, disputed, ended, KeyAt, Page, with_sheet, ended_by, with_key_at, shown_in_time, amounts_of, paid_out, payout_of, all_over, is_settled}
-use Rattle.register.specs.Laws.{Event, sheet_comes, key_comes, tick_comes, page_after, NotBefore, Shows, EndedForGood, UntilStays, HigherShown, KeysStay, PayoutStays, SettledForGood, StaysSettled, money_of, paid_to_neighbour, NothingLost}
+use Rattle.register.specs.Register.{Phase, quiet, disputed, ended, KeyAt, with_sheet, ended_by, with_key_at, shown_in_time, amounts_of, paid_out, payout_of, all_over, is_settled}
+use Rattle.register.specs.Laws.{Event, sheet_comes, key_comes, tick_comes, page_after, NotBefore, Shows, EndedForGood, UntilStays, HigherShown, KeysStay, PayoutStays, SettledForGood, StaysSettled, NothingLost}
 
 -- an ended page stays so
 stays : (window : ℕ) (events : List Event) (keys : List KeyAt) (s : Content) (until : ℕ) → (page_after window events (record { phase = ended s until; keys = keys })).phase ≡ ended s until

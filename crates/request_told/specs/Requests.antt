@@ -6,7 +6,6 @@ use Rattle.lines.specs.declared.NumberFault.TheVariants.{NotANumber, TooLarge}
 use Rattle.lines.specs.Lines.{words, number_read, hex_read, hex_read_exact}
 use Rattle.refusal.specs.declared.Refusal.{Refusal}
 use Rattle.refusal.specs.declared.Refusal.TheVariants.{Unreadable, TooLarge as TickTooLarge}
-use Rattle.sheet.specs.declared.types.Payment.{Payment}
 use Rattle.rules.specs.declared.types.Call.{Call}
 use Rattle.rules.specs.declared.types.Call.TheVariants.{Pass, Pay, Get, GiveUp}
 use Rattle.looking.specs.declared.types.Shown.{Shown}

@@ -1,5 +1,5 @@
 -- The acts of each outcome are in order.
-use Rattle.std.proofs.Common.{◌≡◌, ℕ, cond, List, [], Ok, Err, Result, refl, inl, inr}
+use Rattle.std.proofs.Common.{ℕ, List, [], Ok, Err, Result, refl, inl, inr}
 use Rattle.std.proofs.lemmas.Bool.{cond_both}
 use Rattle.digest.specs.Sha256.{sha256}
 use Rattle.refusal.specs.declared.Refusal.{Refusal}

@@ -1,5 +1,5 @@
 -- Which numbers can be agreed on, and when a node looks. Assumes nothing.
-use Rattle.std.specs.Prelude.{◌≡◌, ℕ, ◌+◌, ◌*◌, ◌≤◌, Bool, false, cond, Ok, Err, Result, ◌==◌, nat_le, nat_lt}
+use Rattle.std.specs.Prelude.{◌≡◌, ℕ, ◌+◌, ◌*◌, ◌≤◌, false, cond, Ok, Err, Result, ◌==◌, nat_le, nat_lt}
 use Rattle.schedule.specs.declared.types.TooSmall.{TooSmall}
 use Rattle.schedule.specs.declared.types.TooSmall.TheVariants.{Look, Window, Gap}
 use Rattle.schedule.specs.declared.types.Values.{Values}

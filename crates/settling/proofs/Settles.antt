@@ -13,7 +13,7 @@ use Rattle.moments.specs.Runs.{Deposit}
 use Rattle.moments.specs.Moments.{Counts, Stands}
 use Rattle.moments.specs.Moves.{SameSheets}
 use Rattle.moments.proofs.Places.{counts_same}
-use Rattle.promise_told.specs.World.{World, node_of, terms_of, Coming, sheet_for, Event, run, beginning, world_after}
+use Rattle.promise_told.specs.World.{World, node_of, terms_of, Coming, sheet_for, Event, beginning, world_after}
 use Rattle.promise_told.specs.Main.{Holds, none_of, is_bare, settled_by, Settled, Main}
 use Rattle.promise_told.proofs.Follows.{world_terms}
 use Rattle.promise_told.proofs.Safe.{OnWay, SafeIn, AlwaysTimely, no_older_from}

@@ -1,5 +1,5 @@
 -- Two payments, or the contents of two sheets, are the same if all their parts are.
-use Rattle.std.proofs.Common.{◌≡◌, Bool, ◌&&◌, List, Decides, refl, true, sym, ap, ◌∙◌}
+use Rattle.std.proofs.Common.{◌≡◌, Bool, ◌&&◌, List, Decides, refl, sym, ap, ◌∙◌}
 use Rattle.std.specs.Bool.{one_answer}
 use Rattle.std.specs.Cmp.{IsPartialEquivalence}
 use Rattle.std.specs.Cmp.Lexicographic.{pointwise}

@@ -1,9 +1,9 @@
 -- A search through a list of payments for a lock: what has been passed has no part in the answer.
-use Rattle.std.proofs.Common.{◌≡◌, ℕ, ◌+◌, ◌<◌, ◌≤◌, true, false, List, [], ◌∷◌, ◌++◌, length, get_or, take, drop, Some, None, sym, ap, ◌∙◌, arith}
+use Rattle.std.proofs.Common.{◌≡◌, ℕ, ◌+◌, ◌<◌, ◌≤◌, true, false, List, [], ◌∷◌, ◌++◌, length, get_or, take, drop, Some, None, sym, ap, ◌∙◌}
 use Rattle.std.proofs.lemmas.List.{append_assoc, append-nil, take_all, take_more, get_or_default, at_drop_more, at_drop_all}
 use Rattle.sheet.specs.declared.types.Payment.{Payment}
 use Rattle.sheet.specs.Contents.{is_for, found, without}
-use Rattle.sheet.specs.Places.{taken_off, Placed}
+use Rattle.sheet.specs.Places.{Placed}
 
 -- the first i payments have another lock
 abbrev pub Passed : List ℕ → List Payment → ℕ → Type 0

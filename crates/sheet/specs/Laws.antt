@@ -4,7 +4,6 @@ use Rattle.std.specs.Cmp.{IsPartialEquivalence, on_per, and_per, partial_equiv_f
 use Rattle.std.specs.Cmp.Lexicographic.{lists_per}
 use Rattle.std.specs.Ordering.{on}
 use Rattle.sheet.specs.declared.types.Payment.{Payment}
-use Rattle.sheet.specs.declared.types.Sheet.{Sheet}
 use Rattle.sheet.specs.Contents.{Content, content_of, payment_eq, content_eq}
 
 pub nat_eq_laws : IsPartialEquivalence nat_eq

@@ -1,5 +1,5 @@
 -- A step is an event of the world; and how a run begins.
-use Rattle.std.proofs.Common.{◌≡◌, ℕ, zero, suc, ◌+◌, ◌<◌, ◌≤◌, Bool, true, false, cond, ltb, List, [], ◌∷◌, ◌++◌, length, take, Some, None, Ok, Err, vec_items, Option, Result, sym, refl, ap, ◌∙◌, subst, append_assoc, arith, length-append}
+use Rattle.std.proofs.Common.{◌≡◌, ℕ, ◌+◌, ◌≤◌, Bool, true, false, ltb, List, [], ◌∷◌, ◌++◌, length, take, Ok, Err, vec_items, Result, sym, refl, ap, ◌∙◌, append_assoc, arith, length-append}
 use Rattle.std.proofs.lemmas.Bool.{cond-true, lt-ltb}
 use Rattle.std.proofs.lemmas.List.{append-nil}
 use Rattle.refusal.specs.declared.Refusal.{Refusal}
@@ -9,7 +9,6 @@ use Rattle.node_state.specs.declared.types.Terms.{Terms}
 use Rattle.node_state.specs.Nodes.{NodeState, empty_of, with_accounts, with_opened}
 use Rattle.outcome.specs.declared.types.Fault.{Fault}
 use Rattle.outcome.specs.Acts.{Act}
-use Rattle.outcome.specs.Logs.{Begun}
 use Rattle.outcome.specs.Records.{acted_all}
 use Rattle.outcome.proofs.Appends.{begun_first}
 use Rattle.looking.specs.Looking.{look_of, looked_node}

@@ -8,12 +8,10 @@ use Rattle.terms.specs.declared.types.Entry.{Entry}
 use Rattle.terms.specs.declared.types.Entry.TheVariants.{Nothing, Gap, Window, Delay, Look, Account}
 use Rattle.terms.specs.declared.types.Wrong.{Wrong}
 use Rattle.terms.specs.declared.types.Wrong.TheVariants.{TooLong, NotUnderstood, NumberTooLarge, Twice, TooManyAccounts, DepositsTooLarge, NoGap, NoWindow, NoDelay, NoLook, NoAccount, LookBelowOne, WindowTooShort, GapTooShort}
-use Rattle.terms.specs.declared.types.Deposits.{Deposits}
 use Rattle.terms.specs.declared.types.Draft.{Draft}
 use Rattle.terms.specs.declared.types.Fault.{Fault}
 use Rattle.terms.specs.declared.types.Placed.{Placed}
 use Rattle.terms.specs.declared.types.Agreed.{Agreed}
-use Rattle.terms.specs.declared.types.Terms.{Terms}
 
 -- What is wrong with a number.
 abbrev pub faulty : NumberFault → Wrong

@@ -1,6 +1,6 @@
 use Rattle.std.proofs.Common.{sym, ap, ◌∙◌, arith}
 use Rattle.node_state.specs.Nodes.{state_of}
-use Rattle.clock.specs.Clocks.{is_later, any_later}
+use Rattle.clock.specs.Clocks.{is_later}
 use Rattle.clock.proofs.Rounds.{later_more, later_here, later_none}
 use Rattle.clock.proofs.any_later.Goals as goal
 

@@ -1,5 +1,5 @@
-use Rattle.std.proofs.Common.{sym, ap, ◌∙◌, arith}
-use Rattle.lines.proofs.Pairs.{none_before, pair_none, pair_more, pair_all}
+use Rattle.std.proofs.Common.{arith}
+use Rattle.lines.proofs.Pairs.{pair_none, pair_more, pair_all}
 use Rattle.lines.proofs.hex_vec.Goals as goal
 
 pub returns-in-None : goal.returns-in-None

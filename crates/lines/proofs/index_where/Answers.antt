@@ -1,4 +1,4 @@
-use Rattle.std.proofs.Common.{sym, ◌∙◌, arith}
+use Rattle.std.proofs.Common.{arith}
 use Rattle.lines.proofs.Seeks.{seek_here, seek_more, seek_all}
 use Rattle.lines.proofs.index_where.Goals as goal
 

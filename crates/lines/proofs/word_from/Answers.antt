@@ -1,4 +1,4 @@
-use Rattle.std.proofs.Common.{◌≡◌, ℕ, ◌-◌, ◌<◌, List, [], length, take, drop, IfSome, Some, None, Option, unwrap_or, sym, ap, ◌∙◌, subst, arith, length-drop, length-take, Bor}
+use Rattle.std.proofs.Common.{ℕ, ◌-◌, ◌<◌, List, [], length, take, drop, IfSome, Some, Option, unwrap_or, sym, ap, ◌∙◌, subst, arith, length-drop, length-take, Bor}
 use Rattle.std.specs.Option.{option_map}
 use Rattle.lines.proofs.Seeks.{first_none, first_some, words_from}
 use Rattle.lines.proofs.word_from.Goals as goal

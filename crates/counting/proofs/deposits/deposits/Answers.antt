@@ -1,5 +1,4 @@
 use Rattle.std.proofs.Common.{◌≡◌, ℕ, ap, ◌∙◌, arith}
-use Rattle.journal.specs.Records.{Outcome}
 use Rattle.moments.specs.Moments.{sum_to}
 use Rattle.counting.specs.Deposits.{own_read, own_first}
 use Rattle.counting.proofs.Steps.{sum_step}

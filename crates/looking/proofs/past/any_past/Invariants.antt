@@ -1,4 +1,4 @@
-use Rattle.std.proofs.Common.{◌≡◌, ltb, drop}
+use Rattle.std.proofs.Common.{◌≡◌, drop}
 use Rattle.looking.specs.Looking.{any_past}
 use Rattle.looking.proofs.past.any_past.Given as goal
 

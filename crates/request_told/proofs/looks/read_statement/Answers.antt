@@ -1,4 +1,4 @@
-use Rattle.std.proofs.Common.{sym, ◌∙◌, rules}
+use Rattle.std.proofs.Common.{rules}
 use Rattle.request_told.proofs.Statements.{too_many}
 use Rattle.request_told.proofs.looks.read_statement.Goals as goal
 

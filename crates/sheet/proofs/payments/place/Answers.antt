@@ -1,4 +1,4 @@
-use Rattle.std.proofs.Common.{sym, ◌∙◌}
+use Rattle.std.proofs.Common.{sym}
 use Rattle.sheet.proofs.Searches.{passed_more, placed_here, placed_nowhere}
 use Rattle.sheet.proofs.payments.place.Goals as goal
 
