@@ -8,6 +8,7 @@ use node_state::{Node, Terms};
 use replay::{Replayed, StartFault, replay};
 use sheet::Sheet;
 use std::alloc::{AllocError, Global};
+use std::process::ExitCode;
 use std::{env, fs};
 
 const HELP: &str = "usage: count [--json] FOLDER
@@ -163,10 +164,10 @@ fn run(rt: &HostRuntime, word: &str, json: bool) -> anyhow::Result<()> {
     print_count(rt, counted, json)
 }
 
-// What stops the program is said on standard error, and ends it with status 1.
-fn main(rt: HostRuntime) -> anyhow::Result<()> {
-    match asked(&rt)? {
-        Task::Count { word, json } => match run(&rt, word.as_str(), json) {
+// Does what the arguments ask for; what stops it is said on standard error.
+fn attend(rt: &HostRuntime) -> anyhow::Result<()> {
+    match asked(rt)? {
+        Task::Count { word, json } => match run(rt, word.as_str(), json) {
             Ok(()) => Ok(()),
             Err(e) => {
                 eprintln!(rt; "count: {e}")?;
@@ -183,5 +184,13 @@ fn main(rt: HostRuntime) -> anyhow::Result<()> {
             )?;
             Err(anyhow!("usage"))
         }
+    }
+}
+
+// What stops the program ends it with status 1.
+fn main(rt: HostRuntime) -> ExitCode {
+    match attend(&rt) {
+        Ok(()) => ExitCode::SUCCESS,
+        Err(_) => ExitCode::FAILURE,
     }
 }

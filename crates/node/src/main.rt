@@ -11,6 +11,7 @@ use request::{Request, read_request};
 use rules::{call, message};
 use std::env;
 use std::io::{BufRead, BufReader, Write};
+use std::process::ExitCode;
 
 mod acts;
 mod guard;
@@ -123,10 +124,10 @@ fn run(rt: &HostRuntime, folder: &str) -> anyhow::Result<()> {
     result
 }
 
-// What stops the program is said on standard error, and ends it with status 1.
-fn main(rt: HostRuntime) -> anyhow::Result<()> {
-    match asked(&rt)? {
-        Task::Run(folder) => match run(&rt, folder.as_str()) {
+// Does what the arguments ask for; what stops it is said on standard error.
+fn attend(rt: &HostRuntime) -> anyhow::Result<()> {
+    match asked(rt)? {
+        Task::Run(folder) => match run(rt, folder.as_str()) {
             Ok(()) => Ok(()),
             Err(e) => {
                 eprintln!(rt; "node: {e}")?;
@@ -141,5 +142,13 @@ fn main(rt: HostRuntime) -> anyhow::Result<()> {
             eprintln!(rt; "node: one argument, its folder: node FOLDER (node --help says more)")?;
             Err(anyhow!("usage"))
         }
+    }
+}
+
+// What stops the program ends it with status 1.
+fn main(rt: HostRuntime) -> ExitCode {
+    match attend(&rt) {
+        Ok(()) => ExitCode::SUCCESS,
+        Err(_) => ExitCode::FAILURE,
     }
 }

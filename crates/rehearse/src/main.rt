@@ -7,6 +7,7 @@ use script::{ReadFault, Script, read_script};
 use stage::{Event, Trouble, play};
 use std::alloc::AllocError;
 use std::io::Write;
+use std::process::ExitCode;
 use std::{env, fs};
 
 mod cast;
@@ -162,9 +163,9 @@ fn run(rt: &HostRuntime, wanted: &Wanted) -> anyhow::Result<()> {
     }
 }
 
-fn main(rt: HostRuntime) -> anyhow::Result<()> {
-    match asked(&rt)? {
-        Task::Play(wanted) => run(&rt, &wanted),
+fn attend(rt: &HostRuntime) -> anyhow::Result<()> {
+    match asked(rt)? {
+        Task::Play(wanted) => run(rt, &wanted),
         Task::Help => {
             println!(rt; "{HELP}")?;
             Ok(())
@@ -175,5 +176,13 @@ fn main(rt: HostRuntime) -> anyhow::Result<()> {
             )?;
             Err(anyhow!("usage"))
         }
+    }
+}
+
+// What stops the program ends it with status 1.
+fn main(rt: HostRuntime) -> ExitCode {
+    match attend(&rt) {
+        Ok(()) => ExitCode::SUCCESS,
+        Err(_) => ExitCode::FAILURE,
     }
 }
