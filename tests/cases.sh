@@ -1,7 +1,7 @@
 #!/usr/bin/env bash
 # The cases stand in two places: in crates/cases, where the checker computes them (specs/Table.antt, and their lines in
-# specs/Scripts.antt), and in examples/cases, as lines through the node program. Each row has its lines and what is expected, to the
-# letter, and all lines have their row.
+# specs/Scripts.antt), and in examples/cases and examples/cases_told, as lines through the program node_told. Each row has its lines
+# and what is expected, to the letter, and all lines have their row.
 set -u
 cd "$(dirname "$0")/.."
 place=$(mktemp -d)

@@ -1,5 +1,6 @@
 #!/usr/bin/env bash
-# The examples: each case is lines through one node, each script is several nodes wired by pipes; what comes out is compared.
+# The examples through the program node: each case in examples/cases is lines through one node, each script is several nodes wired by
+# pipes; what comes out is compared.
 set -u
 cd "$(dirname "$0")/.."
 node=$PWD/target/bin/node

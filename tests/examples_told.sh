@@ -1,5 +1,6 @@
 #!/usr/bin/env bash
-# The examples through the node that looks: each case is lines through one node; what comes out is compared.
+# The examples through node_told, the node that looks: each case in examples/cases and examples/cases_told is lines through one node;
+# what comes out is compared.
 set -u
 cd "$(dirname "$0")/.."
 node=$PWD/target/bin/node_told

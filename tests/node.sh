@@ -1,5 +1,5 @@
 #!/usr/bin/env bash
-# The node program as a stranger would treat it: bad input of each kind, a folder that isn't there, and pipes.
+# The program node as a stranger would treat it: bad input of each kind, a folder that isn't there, and pipes.
 set -u
 cd "$(dirname "$0")/.."
 node=$PWD/target/bin/node

@@ -1,5 +1,5 @@
 #!/usr/bin/env bash
-# The node program as a stranger would treat it: bad input of each kind, a folder that isn't there, and pipes; and looking.
+# The program node_told as a stranger would treat it: bad input of each kind, a folder that isn't there, and pipes; and looking.
 set -u
 cd "$(dirname "$0")/.."
 node=$PWD/target/bin/node_told

@@ -1,5 +1,5 @@
 #!/usr/bin/env bash
-# The second program, in plain Rust: its own tests, and then the same lines through it and through the proved programs.
+# The second program, in plain Rust: its own tests, and then the same lines through it and through digests and sheets.
 set -eu
 cd "$(dirname "$0")/.."
 export CARGO_TERM_COLOR=never CARGO_NET_OFFLINE=true

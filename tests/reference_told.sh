@@ -1,5 +1,6 @@
 #!/usr/bin/env bash
-# The second program, in plain Rust: its own tests, and then the same lines through it and through the proved programs.
+# The second program, in plain Rust: its own tests, and then the same lines through it and through digests, sheets and, in whole runs,
+# node_told; and the search for losses.
 set -euo pipefail
 cd "$(dirname "$0")/.."
 export CARGO_TERM_COLOR=never CARGO_NET_OFFLINE=true

@@ -1,4 +1,4 @@
-// The node's clock: the tick of its last look.
+// The clock of the program node: the tick of its last look. (node_told looks by the crate looking.)
 // Promises: a look sets the clock of every account, and one at an earlier tick is refused (specs/Clocks.antt). Leans on node_state.
 #![tactic(auto)]
 

@@ -1,4 +1,4 @@
-// A node: reads messages and calls, one a line, and answers each by a line `ok` or `no N`.
+// A node with the clock alone, which shows nothing to the register: reads messages, calls and ticks, one a line, and answers each by a line `ok` or `no N`.
 #![tactic(auto)]
 
 use anyhow::anyhow;

@@ -1,4 +1,4 @@
-// A node: reads messages, calls and looks, one a line, and answers each by a line `ok` or `no N`.
+// A node that looks at the register: reads messages, calls and looks, one a line, and answers each by a line `ok` or `no N`.
 #![tactic(auto)]
 
 use anyhow::anyhow;

@@ -1,6 +1,7 @@
-// The node, the register and time together: the world of a run, and what is promised of every run.
-// Promises: in every run of the world the node is that of a run by itself; and Main follows from three statements about
-// time. These three stand in specs/Main.antt and are not proved yet. Leans on looking, register and moments.
+// The node, the register and time together: the world of a run, and what is promised of every run. A look is told the
+// register's own list. Promises: in every run of the world the node is that of a run by itself; and Main follows from three
+// statements about time. These three stand in specs/Main.antt and are not proved for this world; promise_told proves them,
+// and Main, for a world in which looks are told the same in any order. Leans on looking, register and moments.
 #![tactic(auto)]
 
 ghost use Rattle.promise.specs.Main.{MainFollows};

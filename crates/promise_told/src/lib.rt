@@ -1,4 +1,5 @@
-// The node, the register and time together: the world of a run, and what is promised of every run.
+// The node, the register and time together: the world of a run, in which a look is told what the register shows, in any
+// order; and what is promised of every run.
 // Promises: once every account is settled the node has at least what it put in, whatever all others do (Main); what that
 // rests on (NoOlder, DecidedEarly, InTime); and that in the world the node is a node by itself, and what its file says.
 // Leans on looking, register and moments.

@@ -1,4 +1,4 @@
-// One line of the node's input: what is asked of it.
+// One line of the input of the program node: what is asked of it. A look is its tick alone (request_told reads more).
 // Promises: each line is read as specs/Requests.antt says, or refused. Leans on refusal, sheet_bytes, lines and the types of rules.
 #![tactic(auto)]
 

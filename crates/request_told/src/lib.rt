@@ -1,4 +1,4 @@
-// One line of the node's input: what is asked of it.
+// One line of the input of the program node_told: what is asked of it. A look comes with what the register shows.
 // Promises: each line is read as specs/Requests.antt says, or refused. Leans on refusal, sheet_bytes, lines and the types of rules and looking.
 #![tactic(auto)]
 

@@ -1,7 +1,7 @@
-// One step of a node: a request is taken, by the rules or by looking. This is what the program calls for each line.
+// One step of a node: a request is taken, by the rules or by looking. This is what the program node_told calls for each line.
 // Promises: the answer, the acts in their order and the node afterwards (specs/Steps.antt); and that a node which came about
 // by a run of the world is afterwards one of that run and this event, so that what is promised of every run holds of it.
-// Leans on rules, looking and the world of promise.
+// Leans on rules, looking and the world of promise_told.
 #![tactic(auto)]
 
 ghost use Rattle.node_state.specs.Nodes.{state_of};
