@@ -3,7 +3,7 @@
 set -u
 cd "$(dirname "$0")/.."
 rehearse=$PWD/target/bin/rehearse
-[ -x "$rehearse" ] || { echo "tests/rehearse.sh: $rehearse is not there; rt check rehearse builds it" >&2; exit 1; }
+[ -x "$rehearse" ] || { echo "tests/rehearse.sh: $rehearse is not there; ./helgumba --build rehearse builds it" >&2; exit 1; }
 place=$(mktemp -d)
 trap 'rm -rf "$place"' EXIT
 passed=0

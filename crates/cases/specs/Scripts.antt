@@ -1,4 +1,4 @@
--- The cases as the node program gets them: the lines of examples/cases/*.lines, and what is printed, as examples/cases/*.expected
+-- The cases as the program node_told gets them: the lines of examples/cases/*.lines and examples/cases_told/*.lines, and what is printed, as the *.expected
 -- has it after `ready`. (tests/cases.sh compares them.) Assumes nothing.
 use Rattle.std.specs.Prelude.{List, [], ◌∷◌}
 use Prim.Native.String.{String}

@@ -37,7 +37,7 @@ payment_through =
 
 -- B. Passed on and signed back, and then silence: the neighbours answer no more, and the node looks. What it is paid out in
 -- the end is together at least the 20 that it put in. Four runs are rows here, by when the key is shown; that it is so
--- whatever sheet counts and whenever the key is shown is the theorem Main of crates/promise.
+-- whatever sheet counts and whenever the key is shown is the theorem Main of crates/promise_told.
 
 -- So many looks, 13 ticks apart, the first at this tick; each is told this, and shows nothing.
 abbrev pub looking : (first many : ℕ) → List Shown → List Step

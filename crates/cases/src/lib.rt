@@ -1,6 +1,6 @@
-// Cases of a node with two neighbours as rows of one table; examples/cases has the same rows as lines of the node program.
+// Cases of a node with two neighbours as rows of one table; examples/cases and examples/cases_told have the same rows as lines of the program node_told.
 // Promises: every row holds (specs/Table.antt), and its lines are the row (specs/Written.antt), computed by the checker.
-// Leans on the specs of promise and request.
+// Leans on the specs of promise_told and request_told.
 #![tactic(auto)]
 
 ghost use Rattle.cases.specs.Table.{CasesHold};

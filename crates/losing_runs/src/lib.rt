@@ -1,6 +1,6 @@
 // Why the rules are as they are: for rules that go beyond a plain reading, a run in which a node without them loses.
 // Promises: by the run's events every account is settled, and the payouts together are less than the node put in; while the
-// node that keeps the rules has at least that. The checker computes each run. Leans on the specs of promise.
+// node that keeps the rules has at least that. The checker computes each run. Leans on the specs of promise_told.
 #![tactic(auto)]
 
 ghost use Rattle.losing_runs.specs.Conduct.{SameWorld};

@@ -1,4 +1,4 @@
--- The invariant about time, for each account (P2, P3) and for the world (P4). Put this into crates/promise/proofs.
+-- The invariant about time, for each account (P2, P3) and for the world (P4).
 use Rattle.std.proofs.Common.{◌≡◌, ℕ, zero, suc, ◌+◌, ◌*◌, ◌<◌, ◌≤◌, Bool, true, false, cond, ◌&&◌, eqb, ltb, leb, ◌⊎◌, List, [], ◌∷◌, length, get_or, is_some, Some, None, Option, sym, refl, ap, ◌∙◌, subst, inl, inr, arith}
 use Rattle.std.proofs.lemmas.Bool.{cond_both, cond-true, cond-false, eqb-true, and_parts, or_cases, or_left, or_right, ltb-true, lt-ltb, leb-true, leb-false}
 use Rattle.std.specs.List.{slice_get}

@@ -1,6 +1,6 @@
 // Every run can go on to where every account is settled, by looks, arrivals and ticks alone; and the node then has at least
 // what it put in. No code but the theorems' name.
-// Promises: what specs/Settling.antt states. Leans on promise.
+// Promises: what specs/Settling.antt states. Leans on promise_told.
 #![tactic(auto)]
 
 ghost use Rattle.settling.specs.Settling.{SettlesAlone, Settles, PaidAlone};
