@@ -1,6 +1,6 @@
 -- What a sheet means: its numbers and two lists of payments, and how a payment is found, added and taken off.
 -- Assumes nothing.
-use Rattle.std.specs.Prelude.{◌≡◌, ◌==◌, ℕ, Bool, cond, ◌&&◌, List, [], ◌∷◌, length, take, Some, None, Option, nat_le, nat_lt}
+use Rattle.std.specs.Prelude.{◌≡◌, ◌==◌, ℕ, Bool, Decides, cond, ◌&&◌, List, [], ◌∷◌, length, take, Some, None, Option, nat_le, nat_lt}
 use Rattle.std.specs.Cmp.Lexicographic.{pointwise}
 use Rattle.std.specs.Str.{bytes_eq}
 use Rattle.sheet.specs.declared.types.Payment.{Payment}
@@ -72,3 +72,7 @@ turned_of s =
 -- Turned round twice, a sheet is itself.
 abbrev pub TurnedTwice : Type 0
 TurnedTwice = (s : Content) → turned_of (turned_of s) ≡ s
+
+-- What == answers of two payments, and of two sheets by what they mean, is true just where they are the same.
+abbrev pub EqualIsSame : Type 0
+EqualIsSame = ((a b : Payment) → Decides (payment_eq a b) (a ≡ b)) × ((s t : Content) → Decides (content_eq s t) (s ≡ t))

@@ -2,7 +2,7 @@
 // Promises: each function does to a sheet's content (specs/Contents.antt) just what its contract says. Leans on nothing.
 #![tactic(auto)]
 
-ghost use Rattle.sheet.specs.Contents.{TurnedTwice};
+ghost use Rattle.sheet.specs.Contents.{TurnedTwice, EqualIsSame};
 
 mod equals;
 mod payments;
@@ -15,6 +15,13 @@ pub use types::{Payment, Sheet};
 // The theorem that the neighbour's view of the neighbour's view is the sheet itself.
 pub fn turned_twice_stands() -> u8
     ensures { TurnedTwice }
+{
+    0
+}
+
+// The theorem that what == answers of payments and sheets is whether they are the same.
+pub fn equal_is_same_stands() -> u8
+    ensures { EqualIsSame }
 {
     0
 }
