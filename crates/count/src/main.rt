@@ -118,33 +118,44 @@ fn print_count(rt: &HostRuntime, counted: Count, json: bool) -> anyhow::Result<(
     Ok(())
 }
 
-// The node that the file says. Terms are of no matter for a count.
-fn started(heap: Global, path: &str, bytes: &[u8]) -> anyhow::Result<Replayed> {
+// The node that the file says, where it is not damaged: that is said here. Terms are of no matter for a count.
+fn started(rt: &HostRuntime, path: &str, bytes: &[u8]) -> anyhow::Result<Option<Replayed>> {
     let terms = Terms {
         gap: 0,
         window: 0,
         delay: 0,
         look: 0,
     };
-    match replay(heap, terms, bytes) {
-        Ok(replayed) => Ok(replayed),
+    match replay(rt.alloc(), terms, bytes) {
+        Ok(replayed) => Ok(Some(replayed)),
         Err(StartFault::Memory) => Err(anyhow!("out of memory")),
-        Err(StartFault::Damaged { at }) => { Err(anyhow!("{path}, byte {at}: damaged")) }
+        Err(StartFault::Damaged { at }) => {
+            eprintln!(rt; "count: {path}, byte {at}: damaged")?;
+            Ok(None)
+        }
     }
 }
 
-fn contents(rt: &HostRuntime, path: &str) -> anyhow::Result<Vec<u8>> {
+// What stands in the file, where it can be read: else that is said here.
+fn contents(rt: &HostRuntime, path: &str) -> anyhow::Result<Option<Vec<u8>>> {
     match fs::read(rt, path) {
-        Ok(bytes) => Ok(bytes),
-        Err(e) => { Err(anyhow!("{path}: {e}")) }
+        Ok(bytes) => Ok(Some(bytes)),
+        Err(e) => {
+            eprintln!(rt; "count: {path}: {e}")?;
+            Ok(None)
+        }
     }
 }
 
-fn run(rt: &HostRuntime, word: &str, json: bool) -> anyhow::Result<()> {
+fn run(rt: &HostRuntime, word: &str, json: bool) -> anyhow::Result<ExitCode> {
     let file = path_of(rt, word)?;
     let path = file.as_str();
-    let bytes = contents(rt, path)?;
-    let replayed = started(rt.alloc(), path, bytes.as_slice())?;
+    let Some(bytes) = contents(rt, path)? else {
+        return Ok(ExitCode::FAILURE);
+    };
+    let Some(replayed) = started(rt, path, bytes.as_slice())? else {
+        return Ok(ExitCode::FAILURE);
+    };
     let whole = replayed.whole;
     if whole < bytes.len() {
         eprintln!(rt; "count: {path}, byte {whole}: a short record, which is left out")?;
@@ -153,7 +164,8 @@ fn run(rt: &HostRuntime, word: &str, json: bool) -> anyhow::Result<()> {
         Ok(counted) => counted,
         Err(disorder) => {
             let account = disorder.account;
-            return Err(anyhow!("{path}: next of account {account} is not held with one change"));
+            eprintln!(rt; "count: {path}: next of account {account} is not held with one change")?;
+            return Ok(ExitCode::FAILURE);
         }
     };
     if json {
@@ -161,14 +173,15 @@ fn run(rt: &HostRuntime, word: &str, json: bool) -> anyhow::Result<()> {
     } else {
         print_text(rt, &replayed.node)?;
     }
-    print_count(rt, counted, json)
+    print_count(rt, counted, json)?;
+    Ok(ExitCode::SUCCESS)
 }
 
 // Does what the arguments ask for; what stops it is said on standard error.
-fn attend(rt: &HostRuntime) -> anyhow::Result<()> {
+fn attend(rt: &HostRuntime) -> anyhow::Result<ExitCode> {
     match asked(rt)? {
         Task::Count { word, json } => match run(rt, word.as_str(), json) {
-            Ok(()) => Ok(()),
+            Ok(code) => Ok(code),
             Err(e) => {
                 eprintln!(rt; "count: {e}")?;
                 Err(e)
@@ -176,13 +189,13 @@ fn attend(rt: &HostRuntime) -> anyhow::Result<()> {
         },
         Task::Help => {
             println!(rt; "{HELP}")?;
-            Ok(())
+            Ok(ExitCode::SUCCESS)
         }
         Task::Usage => {
             eprintln!(rt;
                 "count: one folder or one file: count [--json] FOLDER (count --help says more)"
             )?;
-            Err(anyhow!("usage"))
+            Ok(ExitCode::FAILURE)
         }
     }
 }
@@ -190,7 +203,7 @@ fn attend(rt: &HostRuntime) -> anyhow::Result<()> {
 // What stops the program ends it with status 1.
 fn main(rt: HostRuntime) -> ExitCode {
     match attend(&rt) {
-        Ok(()) => ExitCode::SUCCESS,
+        Ok(code) => code,
         Err(_) => ExitCode::FAILURE,
     }
 }
