@@ -22,8 +22,6 @@ pub(crate) fn is_known(keys: &[KeyAt], key: &[u8; 32]) -> bool
 pub(crate) fn add(keys: &mut Vec<KeyAt>, key: KeyAt) -> Result<(), AllocError>
     ensures { keys_of keys.new.items ≡ (if is_ok result then keys_of keys.old.items ++ key_at_of key ∷ [] else keys_of keys.old.items) }
 {
-    match keys.push(key) {
-        Ok(()) => Ok(()),
-        Err(_) => Err(AllocError),
-    }
+    keys.push(key)?;
+    Ok(())
 }

@@ -45,10 +45,8 @@ fn add_lock(locks: &mut Vec<NamedLock>, number: u32) -> Result<(), AllocError> {
         return Ok(());
     }
     let lock = lock_of(number);
-    match locks.push(NamedLock { number, lock }) {
-        Ok(()) => Ok(()),
-        Err(_) => Err(AllocError),
-    }
+    locks.push(NamedLock { number, lock })?;
+    Ok(())
 }
 
 // The locks of the keys that a script names.

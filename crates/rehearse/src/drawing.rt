@@ -486,9 +486,7 @@ fn rows_of(cast: &Cast, events: &[Event]) -> Result<Vec<Row>, AllocError> {
                 refused: sketch.refused,
                 text,
             };
-            if rows.push(row).is_err() {
-                return Err(AllocError);
-            }
+            rows.push(row)?;
         }
     }
     Ok(rows)
@@ -538,10 +536,8 @@ fn party_lane(cast: &Cast, events: &[Event], party: usize) -> Result<Lane, Alloc
 }
 
 fn add_lane(lanes: &mut Vec<Lane>, lane: Lane) -> Result<(), AllocError> {
-    match lanes.push(lane) {
-        Ok(()) => Ok(()),
-        Err(_) => Err(AllocError),
-    }
+    lanes.push(lane)?;
+    Ok(())
 }
 
 fn lanes_of(cast: &Cast, events: &[Event]) -> Result<Vec<Lane>, AllocError> {

@@ -117,9 +117,7 @@ fn add_rows(heap: Global, rows: &mut Vec<Row>, entries: &[Entry]) -> Result<(), 
             refused: false,
             text: text_of(heap, entry.text)?,
         };
-        if rows.push(row).is_err() {
-            return Err(AllocError);
-        }
+        rows.push(row)?;
     }
     Ok(())
 }
@@ -142,9 +140,7 @@ fn lanes(heap: Global) -> Result<Vec<Lane>, AllocError> {
             name: text_of(heap, name)?,
             total: total_of(at),
         };
-        if lanes.push(lane).is_err() {
-            return Err(AllocError);
-        }
+        lanes.push(lane)?;
     }
     Ok(lanes)
 }

@@ -38,10 +38,7 @@ impl End {
     ) -> Result<End, AllocError> {
         let mut signed = Vec::new(heap);
         let first = Sheet::first((number & 0xff) as u8, put_in, theirs);
-        match signed.push(first) {
-            Ok(()) => {}
-            Err(_) => return Err(AllocError),
-        }
+        signed.push(first)?;
         Ok(End {
             party,
             number,
@@ -64,10 +61,8 @@ impl End {
         if self.signed_with(sheet.number).is_some() {
             return Ok(());
         }
-        match self.signed.push(sheet) {
-            Ok(()) => Ok(()),
-            Err(_) => Err(AllocError),
-        }
+        self.signed.push(sheet)?;
+        Ok(())
     }
 }
 
