@@ -1,7 +1,5 @@
 -- Two payments, or the contents of two sheets, are the same if all their parts are.
 use Rattle.std.proofs.Common.{◌≡◌, Bool, ◌&&◌, List, Decides, refl, sym, ap, ◌∙◌}
-use Rattle.std.specs.Bool.{one_answer}
-use Rattle.std.specs.Cmp.{IsPartialEquivalence}
 use Rattle.std.specs.Cmp.Lexicographic.{pointwise}
 use Rattle.std.proofs.lemmas.Slice.Eq.{slice_eq-Decides, bytes_eq-Decides}
 use Rattle.std.proofs.lemmas.Bool.Decides.{Decides-and, Decides-like, Decides-eqb}
@@ -38,11 +36,3 @@ pub content_eq_decides : (a b : Content) → Decides (content_eq a b) (a ≡ b)
 content_eq_decides a b =
     content_decides a b _ _ _ _ _ _ (Decides-eqb _ _) (Decides-eqb _ _) (Decides-eqb _ _) (Decides-eqb _ _)
     (lists_decide a.ins b.ins a.ins b.ins _ refl refl refl) (lists_decide a.outs b.outs a.outs b.outs _ refl refl refl)
-
--- a test of being the same is symmetric and transitive
-pub same_laws : {K : Type 0} (E : K → K → Bool) → ((a b : K) → Decides (E a b) (a ≡ b)) → IsPartialEquivalence E
-same_laws E d =
-    record {
-      symm = λ x y. one_answer (E x y) (E y x) (d x y) (Decides-like _ (λ e. sym e) (λ e. sym e) (d y x));
-      trans = λ x y z e f. (d x z).1 ((d x y).0 e ∙ (d y z).0 f);
-    }

@@ -1,6 +1,0 @@
-use Rattle.std.proofs.lemmas.Bool.Decides.{same_from_decides}
-use Rattle.proposal.proofs.Equalities.{same_content_decides}
-use Rattle.judgement.proofs.same.same_sheet.Goals as goal
-
-pub returns : goal.returns
-returns c = same_from_decides _ _ c.eq.ensures.same (same_content_decides _ _)
