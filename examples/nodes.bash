@@ -2,7 +2,7 @@
 # renaming of accounts: a line `send I REST` of one node is given to the other as `J REST`.
 set -u
 root=$(cd "$(dirname "${BASH_SOURCE[0]}")/.." && pwd)
-node=$root/target/bin/node
+node=${NODE:-$root/target/bin/node}
 place=$(mktemp -d)
 trap 'rm -rf "$place"' EXIT
 declare -A to from wire process

@@ -1,28 +1,10 @@
 #!/usr/bin/env bash
-# The program node as a stranger would treat it: bad input of each kind, a folder that isn't there, and pipes.
+# A node program as a stranger would treat it: bad input of each kind, a folder that isn't there, and pipes.
+# usage: tests/node.sh [PROGRAM]    the program node, if none is named
 set -u
 cd "$(dirname "$0")/.."
-node=$PWD/target/bin/node
-key=03$(printf '%064d' 7)
-place=$(mktemp -d)
-trap 'rm -rf "$place"' EXIT
-cp -r crates/node/data/mill "$place/mill"
-failures=0
-
-# expect NAME EXPECTED ACTUAL
-expect() {
-    if [ "$2" = "$3" ]; then
-        printf 'node: %s: ok\n' "$1"
-    else
-        printf 'node: %s: expected %q, got %q\n' "$1" "$2" "$3"
-        failures=$((failures + 1))
-    fi
-}
-
-# The bytes of a line, and then a good line: the first is `no 1`, the second is answered as if nothing had happened.
-refused() { # NAME, and the line on standard input
-    expect "$1" 'ready no 1 ok' "$({ cat; printf '0 %s\n' "$key"; } | "$node" "$place/mill" | tr '\n' ' ' | sed 's/ $//')"
-}
+node=$PWD/${1:-target/bin/node}
+. tests/node.bash
 
 printf '0 %s\n' "${key%?}" | refused 'an odd number of digits'
 printf '0 %sg\n' "${key%?}" | refused 'a letter that is no digit'
@@ -67,7 +49,7 @@ terms 'a gap that is too short' 'terms, line 1: gap is below window + 3 delay + 
 terms 'deposits that are too large' 'terms, line 1: the deposits together are above 4294967295' <<<'account 4294967295 1'
 
 # A file with records, cut at every byte, starts as the node that its whole records say; and what it was told before stands.
-"$node" "$place/mill" <examples/cases/a-payment-through.lines >/dev/null
+"$node" "$place/mill" <examples/cases/a-payment-through.lines >/dev/null 2>&1
 cp "$place/mill/accounts" "$place/whole"
 size=$(stat -c %s "$place/whole")
 whole=0
@@ -111,6 +93,7 @@ expect 'help' 0 $?
 
 # Another program talks to it: each answer comes before the next line is written.
 coproc talk { "$node" "$place/mill"; }
+talk_process=$talk_PID
 read -r -t 10 first <&"${talk[0]}"
 expect 'ready comes at once' ready "$first"
 for turn in 1 2 3; do
@@ -122,6 +105,6 @@ for turn in 1 2 3; do
     expect "refusal $turn comes at once" 'no 1' "$answer"
 done
 eval "exec ${talk[1]}>&-"
-wait "$talk_PID"
+wait "$talk_process"
 expect 'status at the end of the input' 0 $?
 exit "$((failures > 0))"

@@ -98,42 +98,43 @@ def main():
         return pattern.sub(lambda m: m.group(1) if m.group(1) in skip else table[m.group(1)], text)
 
     library = re.compile(r"^\s*(?:ghost )?use (?:Rattle\.std|mathlib|native|Prim|lib|borrow|logic|core)[\w.]*\.\{([^}]*)\}")
-    for p in files(".antt"):
+
+    def read(p):
+        """The lines of a file, and the library's names in it, which stay."""
         lines = open(p, encoding="utf-8").read().split("\n")
-        skip = set()
-        for line in lines:
-            m = library.match(line)
-            if m:
-                skip |= {w.split(" as ")[0].strip() for w in m.group(1).split(",")}
+        imports = [m for m in map(library.match, lines) if m]
+        return lines, {w.split(" as ")[0].strip() for m in imports for w in m.group(1).split(",")}
+
+    def write(p, old, new):
+        if new != old:
+            open(p, "w", encoding="utf-8").write("\n".join(new))
+
+    def import_of(line):
+        """A line that takes from the library: only what it calls things by may be ours."""
+        return re.sub(r" as (" + NAME + ")", lambda m: " as " + table.get(m.group(1), m.group(1)), line)
+
+    def code_of(line, skip):
+        return "".join(q if k % 2 else turn(q, skip) for k, q in enumerate(split_strings(line)))
+
+    for p in files(".antt"):
+        lines, skip = read(p)
         out = []
         for line in lines:
             if library.match(line):
-                out.append(re.sub(r" as (" + NAME + ")", lambda m: " as " + table.get(m.group(1), m.group(1)), line))
-                continue
-            parts = split_strings(line)
-            out.append("".join(q if k % 2 else turn(q, skip) for k, q in enumerate(parts)))
-        new = "\n".join(out)
-        if new != "\n".join(lines):
-            open(p, "w", encoding="utf-8").write(new)
+                out.append(import_of(line))
+            else:
+                out.append(code_of(line, skip))
+        write(p, lines, out)
     for p in files(".rt"):
-        lines = open(p, encoding="utf-8").read().split("\n")
-        skip = set()
-        for line in lines:
-            m = library.match(line)
-            if m:
-                skip |= {w.split(" as ")[0].strip() for w in m.group(1).rstrip("};").split(",")}
+        lines, skip = read(p)
         out, depth = [], 0
         for line in lines:
             begins = re.match(r"\s*(requires|ensures|ghost)\b", line)
             if library.match(line):
-                out.append(re.sub(r" as (" + NAME + ")", lambda m: " as " + table.get(m.group(1), m.group(1)), line))
-                continue
-            if begins or depth > 0:
-                parts = split_strings(line)
-                line2 = "".join(q if k % 2 else turn(q, skip) for k, q in enumerate(parts))
-                depth += line.count("{") - line.count("}")
-                depth = max(depth, 0)
-                out.append(line2)
+                out.append(import_of(line))
+            elif begins or depth > 0:
+                depth = max(depth + line.count("{") - line.count("}"), 0)
+                out.append(code_of(line, skip))
             else:
                 # comments name definitions too
                 at = line.find("//")
@@ -142,9 +143,7 @@ def main():
                     comment = re.sub(r"\b(" + "|".join(map(re.escape, words)) + r")\b", lambda m: table[m.group(1)], line[at:])
                     line = line[:at] + comment
                 out.append(line)
-        new = "\n".join(out)
-        if new != "\n".join(lines):
-            open(p, "w", encoding="utf-8").write(new)
+        write(p, lines, out)
     # a fact that had a word's spelling
     for p in ("crates/journal/specs/Readings.antt", "crates/journal/src/reading.rt"):
         text = open(p, encoding="utf-8").read()
