@@ -33,23 +33,17 @@ pub fn apply(held: Sheet, change: Change, payment: Payment) -> Result<Sheet, Ref
 }
 
 // The theorem that what is computed is the sheet that follows by the rules, as specs/Follows.antt states them.
-pub fn same_change_stands() -> u8
+pub fn same_change_stands()
     ensures { SameChange }
-{
-    0
-}
+{}
 
 // The theorem that each change gives a next sheet of the account with the same total.
-pub fn keeps_total_stands() -> u8
+pub fn keeps_total_stands()
     ensures { KeepsTotal }
-{
-    0
-}
+{}
 
 // The theorem that a refusal is given just where one applies, and then the one with the lowest number.
-pub fn lowest_given_stands() -> u8
+pub fn lowest_given_stands()
     ensures lowest { LowestGiven }
     ensures none { NoneApplies }
-{
-    0
-}
+{}

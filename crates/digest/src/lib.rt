@@ -34,17 +34,13 @@ pub fn lock(key: &[u8; 32]) -> [u8; 32]
 }
 
 // Of the definition alone: it gives the published digests.
-pub fn vectors_stand() -> u8
+pub fn vectors_stand()
     ensures abc { DigestOfAbc }
     ensures empty { DigestOfEmpty }
     ensures two_blocks { DigestOfTwoBlocks }
-{
-    0
-}
+{}
 
 // Of the definition alone: it appends the least number of zero bits that the standard's equation allows.
-pub fn padding_stands() -> u8
+pub fn padding_stands()
     ensures { PaddingLeast }
-{
-    0
-}
+{}

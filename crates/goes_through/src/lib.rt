@@ -8,17 +8,13 @@ ghost use Rattle.goes_through.specs.Willing.{GoesThrough};
 ghost use Rattle.goes_through.specs.Reached.{FromTheStart, IsReached};
 
 // The theorem that a payment that the node can carry goes through.
-pub fn goes_through_stands() -> u8
+pub fn goes_through_stands()
     ensures { GoesThrough }
-{
-    0
-}
+{}
 
 // The theorem that after a look and an offer the node can carry what was offered, where the deposits are enough; and what
 // it holds after the whole run.
-pub fn reached_stands() -> u8
+pub fn reached_stands()
     ensures world { IsReached }
     ensures whole { FromTheStart }
-{
-    0
-}
+{}

@@ -7,14 +7,12 @@ ghost use Rattle.journal.specs.Theorems.{GoodRecord};
 use crate::types::Record;
 use sheet_bytes::read_back_stands;
 
-fn bytes_good(bytes: [u8; 32]) -> u8
+fn bytes_good(bytes: [u8; 32])
     ensures long { length bytes ≡ 32 }
     ensures all { AreBytes bytes }
-{
-    0
-}
+{}
 
-pub(crate) fn record_good(held: Record) -> u8
+pub(crate) fn record_good(held: Record)
     ensures { GoodRecord (record_of held) }
 {
     match held {

@@ -308,36 +308,26 @@ pub fn push_number(out: &mut Vec<u8>, n: u32) -> Result<(), AllocError>
 }
 
 // Words without a byte, with that byte between them, come apart at it into those words.
-pub fn parts_come_apart() -> u8
+pub fn parts_come_apart()
     ensures { PartsComeApart }
-{
-    0
-}
+{}
 
 // The words of a line are its first word and the words of what follows that.
-pub fn first_then_rest() -> u8
+pub fn first_then_rest()
     ensures { FirstThenRest }
-{
-    0
-}
+{}
 
 // A word is not empty and holds no space.
-pub fn words_stand() -> u8
+pub fn words_stand()
     ensures { WordsStand }
-{
-    0
-}
+{}
 
 // A written number reads back.
-pub fn number_reads_back() -> u8
+pub fn number_reads_back()
     ensures { NumberReadsBack }
-{
-    0
-}
+{}
 
 // Written hexadecimal reads back.
-pub fn hex_reads_back() -> u8
+pub fn hex_reads_back()
     ensures { HexReadsBack }
-{
-    0
-}
+{}

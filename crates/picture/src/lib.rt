@@ -15,8 +15,6 @@ pub use escape::push_escaped;
 pub use types::{Lane, Mark, Picture, Row, Total};
 
 // The theorem that an escaped text has none of the bytes that open or close a tag or end a quoted value.
-pub fn no_markup_stands() -> u8
+pub fn no_markup_stands()
     ensures { NoMarkup }
-{
-    0
-}
+{}

@@ -10,17 +10,14 @@ ghost use Rattle.promise.specs.Replay.{NodeAlone};
 use moments::{never_less_stands, no_lock_twice_stands};
 
 // The theorem that the world changes the node in no other way than its own entries, looks and stops do.
-pub fn node_alone_stands() -> u8
+pub fn node_alone_stands()
     ensures { NodeAlone }
-{
-    0
-}
+{}
 
 // The theorem that the promise follows from: no older sheet counts, outs are decided early, keys come through.
-pub fn main_follows_stands() -> u8
+pub fn main_follows_stands()
     ensures { MainFollows }
 {
     never_less_stands();
     no_lock_twice_stands();
-    0
 }

@@ -9,43 +9,31 @@ ghost use Rattle.promise_told.specs.Main.{Main, NoOlder, DecidedEarly, InTime};
 ghost use Rattle.promise_told.specs.Replay.{NodeAlone, FileTells};
 
 // The main theorem: whatever happens, once every account is settled the payouts together are at least the deposits.
-pub fn main_stands() -> u8
+pub fn main_stands()
     ensures { Main }
-{
-    0
-}
+{}
 
 // The theorem that no older sheet counts: where a dispute has ended, the sheet is held or next.
-pub fn no_older_stands() -> u8
+pub fn no_older_stands()
     ensures { NoOlder }
-{
-    0
-}
+{}
 
 // The theorem that outs are decided early: a dispute over an out ends soon after the out's own end.
-pub fn decided_early_stands() -> u8
+pub fn decided_early_stands()
     ensures { DecidedEarly }
-{
-    0
-}
+{}
 
 // The theorem that keys come through: the key of an in that the node is bound to get is shown for its account in time.
-pub fn in_time_stands() -> u8
+pub fn in_time_stands()
     ensures { InTime }
-{
-    0
-}
+{}
 
 // The theorem that the world changes the node in no other way than its own entries, looks and stops do.
-pub fn node_alone_stands() -> u8
+pub fn node_alone_stands()
     ensures { NodeAlone }
-{
-    0
-}
+{}
 
 // The theorem that a node that stops in the world, and starts again, is the one that its file's records say.
-pub fn file_tells_stands() -> u8
+pub fn file_tells_stands()
     ensures { FileTells }
-{
-    0
-}
+{}

@@ -16,38 +16,28 @@ mod types;
 pub use types::{KeyAt, Page, Phase};
 
 // The theorem that the sheet that counts, once a dispute has ended, counts for good.
-pub fn ended_stands() -> u8
+pub fn ended_stands()
     ensures { EndedForGood }
-{
-    0
-}
+{}
 
 // The theorems that `until` of a dispute stays and its number never falls, and that a higher sheet in time is shown.
-pub fn dispute_stands() -> u8
+pub fn dispute_stands()
     ensures stays { UntilStays }
     ensures higher { HigherShown }
-{
-    0
-}
+{}
 
 // The theorem that a key that was shown stays shown, with its tick.
-pub fn keys_stand() -> u8
+pub fn keys_stand()
     ensures { KeysStay }
-{
-    0
-}
+{}
 
 // The theorems that nothing changes the payout of a settled account, and that it stays settled.
-pub fn settled_stands() -> u8
+pub fn settled_stands()
     ensures payout { SettledForGood }
     ensures settled { StaysSettled }
-{
-    0
-}
+{}
 
 // The theorem that the node and the neighbour get together all money on the sheet that counts.
-pub fn nothing_lost_stands() -> u8
+pub fn nothing_lost_stands()
     ensures { NothingLost }
-{
-    0
-}
+{}

@@ -39,11 +39,9 @@ pub fn replay(heap: Global, terms: Terms, bytes: &[u8]) -> Result<Replayed, Star
 
 // The theorems that a start goes by the file's whole records, that it finds a first part of what was written wherever the file
 // is cut, that records give the node that it was when it wrote them, and that each account keeps its money.
-pub fn start_stands() -> u8
+pub fn start_stands()
     ensures by_records { ByRecords }
     ensures cut_anywhere { CutAnywhere }
     ensures as_written { AsWritten }
     ensures deposits_stay { DepositsStay }
-{
-    0
-}
+{}

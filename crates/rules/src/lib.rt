@@ -58,9 +58,7 @@ pub fn call<O: Outside>(
 }
 
 // The theorem that whatever is sent was recorded as signed before, and synced.
-pub fn recorded_first_stands() -> u8
+pub fn recorded_first_stands()
     ensures messages { MessagesRecordedFirst }
     ensures calls { CallsRecordedFirst }
-{
-    0
-}
+{}

@@ -71,8 +71,6 @@ pub fn comes_in_by(tick: u32, delay: u32) -> u64
 }
 
 // The theorem that a node which looks whenever that is due never misses a look.
-pub fn never_missed_stands() -> u8
+pub fn never_missed_stands()
     ensures { NeverMissed }
-{
-    0
-}
+{}

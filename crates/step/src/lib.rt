@@ -43,8 +43,6 @@ pub fn take<O: Outside>(
 }
 
 // The theorem that a node that is opened with the deposits is the node at the beginning of the world.
-pub fn opened_begins_stands() -> u8
+pub fn opened_begins_stands()
     ensures { OpenedBegins }
-{
-    0
-}
+{}

@@ -28,8 +28,6 @@ pub fn read_terms(text: &[u8]) -> Result<Agreed, Fault>
 }
 
 // The theorem that terms which were read keep the rules.
-pub fn terms_hold_stands() -> u8
+pub fn terms_hold_stands()
     ensures { TermsHold }
-{
-    0
-}
+{}
