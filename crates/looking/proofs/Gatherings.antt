@@ -4,7 +4,7 @@ use Rattle.std.specs.Str.{bytes_eq}
 use Rattle.std.proofs.lemmas.List.{at_drop_more, at_drop_all}
 use Rattle.sheet.specs.declared.types.Payment.{Payment}
 use Rattle.account.specs.Accounts.{Standing}
-use Rattle.node_state.specs.declared.types.Terms.{Terms}
+use Rattle.schedule.specs.declared.types.Terms.{Terms}
 use Rattle.node_state.specs.Nodes.{NodeState}
 use Rattle.looking.specs.declared.types.Shown.{Shown}
 use Rattle.looking.specs.declared.keys.Keys.{Keys}

@@ -9,7 +9,8 @@ use crate::keys::Keys;
 use crate::statements::is_shown;
 use crate::types::Shown;
 use account::{Account, Next};
-use node_state::{Node, Terms};
+use node_state::Node;
+use schedule::Terms;
 use sheet::{Payment, same_lock};
 
 const NOTHING: [u8; 32] = [0; 32];

@@ -4,7 +4,7 @@ use Rattle.sheet.specs.declared.types.Payment.{Payment}
 use Rattle.sheet.specs.Contents.{Content, first_of}
 use Rattle.account.specs.Accounts.{Standing, standing_of, opened_of, on_either}
 use Rattle.lockmap.specs.Maps.{lookup, with_at}
-use Rattle.node_state.specs.declared.types.Terms.{Terms}
+use Rattle.schedule.specs.declared.types.Terms.{Terms}
 use Rattle.node_state.specs.declared.types.Route.{Route}
 use Rattle.node_state.specs.declared.node.Node.{Node}
 

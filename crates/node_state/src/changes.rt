@@ -4,9 +4,10 @@ ghost use Rattle.account.specs.Accounts.{standing_of};
 ghost use Rattle.node_state.specs.Nodes.{state_of, empty_of, with_accounts, with_opened, with_account, with_key, with_route};
 
 use crate::node::Node;
-use crate::types::{Route, Terms};
+use crate::types::Route;
 use account::Account;
 use lockmap::LockMap;
+use schedule::Terms;
 use sheet::Sheet;
 use std::alloc::{AllocError, Global};
 

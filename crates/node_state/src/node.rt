@@ -1,9 +1,10 @@
 // What a node keeps. What stands in the array past the count is of no matter.
 ghost use Rattle.std.specs.Prelude.{◌≡◌, ◌≤◌, length};
 
-use crate::types::{Route, Terms};
+use crate::types::Route;
 use account::Account;
 use lockmap::LockMap;
+use schedule::Terms;
 
 // Keys by their lock; locks that were passed on, with the accounts from and to.
 #[derive(Drop)]

@@ -4,8 +4,9 @@ ghost use Rattle.account.specs.Accounts.{standing_of};
 ghost use Rattle.node_state.specs.Nodes.{state_of, account_at, any_has};
 
 use crate::node::Node;
-use crate::types::{Route, Terms};
+use crate::types::Route;
 use account::Account;
+use schedule::Terms;
 use sheet::Sheet;
 
 // Does one of the accounts have an in with the lock.

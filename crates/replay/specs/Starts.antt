@@ -1,6 +1,6 @@
 -- What a start makes of a file. Assumes nothing.
 use Rattle.std.specs.Prelude.{◌≡◌, ℕ, zero, suc, ◌+◌, Bool, false, cond, not, ◌||◌, List, length, drop, Ok, Err, Result}
-use Rattle.node_state.specs.declared.types.Terms.{Terms}
+use Rattle.schedule.specs.declared.types.Terms.{Terms}
 use Rattle.node_state.specs.Nodes.{NodeState, state_of, empty_of}
 use Rattle.journal.specs.Records.{Outcome, whole_record, short_record, damaged_record, record_read}
 use Rattle.replay.specs.declared.types.StartFault.{StartFault}

@@ -8,7 +8,8 @@ ghost use Rattle.node_state.specs.Nodes.{state_of};
 ghost use Rattle.replay.specs.Starts.{Started};
 ghost use Rattle.replay.specs.Theorems.{ByRecords, CutAnywhere, AsWritten, DepositsStay};
 
-use node_state::{Node, Terms};
+use node_state::Node;
+use schedule::Terms;
 use std::alloc::Global;
 
 mod faults;

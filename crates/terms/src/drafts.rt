@@ -4,8 +4,9 @@ ghost use Rattle.lines.specs.Lines.{parts};
 ghost use Rattle.terms.specs.Reading.{said, said_by, line_says, all_say, empty, agreed, hold};
 
 use crate::entries::entry_of;
-use crate::types::{Agreed, Deposits, Draft, Entry, Fault, Placed, Terms, Wrong};
+use crate::types::{Agreed, Deposits, Draft, Entry, Fault, Placed, Wrong};
 use lines::part_at;
+use schedule::Terms;
 
 const EMPTY: Draft = Draft {
     gap: None,

@@ -1,5 +1,5 @@
 // The terms of a node, as its owner writes them.
-// Promises: a text is read as specs/Reading.antt says, or what is wrong with it and where. Leans on lines.
+// Promises: a text is read as specs/Reading.antt says, or what is wrong with it and where. Leans on lines and schedule.
 #![tactic(auto)]
 
 ghost use Rattle.std.specs.Prelude.{◌≡◌};
@@ -9,7 +9,7 @@ mod drafts;
 mod entries;
 mod types;
 
-pub use types::{Agreed, Deposits, Fault, Terms, Wrong};
+pub use types::{Agreed, Deposits, Fault, Wrong};
 
 // The terms that a text says, or what is wrong with it.
 pub fn read_terms(text: &[u8]) -> Result<Agreed, Fault>

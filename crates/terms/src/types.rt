@@ -1,14 +1,5 @@
-// The terms of a node, and what can be wrong with a text of them.
-
-// The numbers that all accounts of a node go by, in ticks. (The field: timelock delta, contest period, confirmation
-// time, watch interval.)
-#[derive(Clone, Copy, PartialEq, Eq, Debug)]
-pub struct Terms {
-    pub gap: u32,
-    pub window: u32,
-    pub delay: u32,
-    pub look: u32,
-}
+// What a text of terms says, and what can be wrong with it.
+use schedule::Terms;
 
 // What the two put into an account at the start.
 #[derive(Clone, Copy, PartialEq, Eq, Debug)]
