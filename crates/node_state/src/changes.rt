@@ -1,5 +1,5 @@
 // How a node is made, and how what it knows changes.
-ghost use Rattle.std.specs.Prelude.{◌≡◌, ◌<◌, [], ◌∷◌, ◌++◌, is_ok, map, IfOk, if◌then◌else◌};
+ghost use Rattle.std.specs.Prelude.{◌≡◌, ◌<◌, [], ◌∷◌, ◌++◌, is_ok, IfOk, if◌then◌else◌};
 ghost use Rattle.account.specs.Accounts.{standing_of};
 ghost use Rattle.node_state.specs.Nodes.{state_of, empty_of, with_accounts, with_opened, with_account, with_key, with_route};
 
@@ -44,14 +44,6 @@ impl Node {
         if let Some(place) = self.accounts.get_mut(i) {
             *place = account;
         }
-    }
-
-    // The accounts, by their numbers, to be changed.
-    pub fn accounts_mut(&mut self) -> &mut [Account]
-        ensures value { map standing_of result.old ≡ (state_of self.old).accounts }
-        ensures after { state_of self.new ≡ with_accounts (state_of self.old) (map standing_of result.new) }
-    {
-        &mut self.accounts
     }
 
     // The key of a lock. Nothing changes where memory runs out.
