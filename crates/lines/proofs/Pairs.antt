@@ -1,5 +1,5 @@
 -- Hexadecimal digits, two for each byte. Assumes nothing.
-use Rattle.std.proofs.Common.{◌≡◌, ℕ, zero, suc, ◌+◌, ◌-◌, ◌*◌, ◌/◌, ◌%◌, ◌<◌, ◌≤◌, List, [], ◌∷◌, ◌++◌, length, get_or, take, drop, Some, None, Option, sym, refl, ap, ◌∙◌, append_assoc, append-nil, arith}
+use Rattle.std.proofs.Common.{◌≡◌, ℕ, zero, suc, ◌+◌, ◌-◌, ◌*◌, ◌/◌, ◌%◌, ◌<◌, ◌≤◌, cond, ltb, List, [], ◌∷◌, ◌++◌, length, get_or, take, drop, Some, None, Option, unwrap_or, sym, refl, ap, ◌∙◌, append_assoc, append-nil, add-zero, arith}
 use Rattle.std.specs.List.{concat}
 use Rattle.std.specs.Simd.{first_chunks}
 use Rattle.std.proofs.lemmas.List.{at_drop_more, at_drop_all, take_more}
@@ -86,3 +86,24 @@ pairs_read w ps e h = ap (λ qs. hex_read (concat qs)) e ∙ ap hex_read (pairs_
 
 pub pairs_exact : (n : ℕ) (w : List ℕ) (ps : List (List ℕ)) → ps ≡ first_chunks 2 (length w / 2) w → length w % 2 ≡ 0 → length w / 2 ≡ n → hex_read (concat ps) ≡ hex_read_exact n w
 pairs_exact n w ps e h k = pairs_read w ps e h ∙ sym (cond-true _ _ _ (eq-eqb (length w) (2 * n) (omega arith)))
+
+-- the values of the n bytes from b on, with 16 for a byte that is no digit
+abbrev values_from : ℕ → ℕ → List ℕ
+values_from zero b = []
+values_from (suc n) b = unwrap_or (hex_digit b) 16 ∷ values_from n (b + 1)
+
+values_at : (n b k : ℕ) → k < n → unwrap_or (hex_digit (b + k)) 16 ≡ get_or (values_from n b) k 0
+values_at zero b k h = absurd (omega arith)
+values_at (suc n) b zero h = ap (λ x. unwrap_or (hex_digit x) 16) (add-zero b)
+values_at (suc n) b (suc k) h =
+    let on : b + suc k ≡ b + 1 + k = omega arith in
+    ap (λ x. unwrap_or (hex_digit x) 16) on ∙ values_at n (b + 1) k (omega arith)
+
+told : (b v : ℕ) → unwrap_or (hex_digit b) 16 ≡ v → hex_digit b ≡ cond (ltb v 16) (Some v) None
+told b v e = grind (arith, nat_tests)
+
+-- the table from '0' to 'f' has the value of each digit
+pub table_digit : (b : ℕ) → 48 ≤ b → b ≤ 102 → hex_digit b ≡ cond (ltb (get_or (values_from 55 48) (b - 48) 0) 16) (Some (get_or (values_from 55 48) (b - 48) 0)) None
+table_digit b low high =
+    let back : b ≡ 48 + (b - 48) = omega arith in
+    told b _ (ap (λ x. unwrap_or (hex_digit x) 16) back ∙ values_at 55 48 (b - 48) (omega arith))
