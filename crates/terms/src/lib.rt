@@ -7,6 +7,7 @@ ghost use Rattle.terms.specs.Reading.{terms_of, TermsHold};
 
 mod drafts;
 mod entries;
+mod faults;
 mod types;
 
 pub use types::{Agreed, Deposits, Fault, Wrong};
@@ -16,15 +17,9 @@ pub fn read_terms(text: &[u8]) -> Result<Agreed, Fault>
     ensures { result ≡ terms_of text.now }
 {
     if text.len() > 1_048_576 {
-        return Err(Fault {
-            line: 0,
-            wrong: Wrong::TooLong,
-        });
+        return Err(Fault::missing(Wrong::TooLong));
     }
-    match drafts::draft_of(text) {
-        Ok(draft) => drafts::agreed_by(&draft),
-        Err(fault) => Err(fault),
-    }
+    drafts::agreed_by(drafts::draft_of(text)?)
 }
 
 // The theorem that terms which were read keep the rules.

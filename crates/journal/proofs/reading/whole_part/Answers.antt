@@ -2,7 +2,7 @@ use Rattle.std.proofs.Common.{length, Err, refl, ap, ◌∙◌, arith}
 use Rattle.std.proofs.lemmas.Result.{err_from_is_err_and}
 use Rattle.journal.specs.Records.{whole_part}
 use Rattle.journal.specs.Readings.{reach}
-use Rattle.journal.proofs.Reaching.{reach_past, reach_damaged}
+use Rattle.journal.proofs.Reaching.{was_whole, reach_past, reach_damaged}
 use Rattle.journal.proofs.reading.whole_part.Goals as goal
 
 pub loop-got-init : goal.loop-got-init
@@ -16,4 +16,5 @@ returns-in_err-got-clause-value c =
 
 pub loop-got-preserved : goal.loop-got-preserved
 loop-got-preserved c =
-    reach_past c.args.bytes.now c.loop-got.at _ c.in_ok-got.field-0 c.in-Some.got c.in-Some.is c.in_ok-got.ensures.value c.in_ok-got.ensures.within c.in_ok-got.ensures.some c.loop-got.invariant.1
+    reach_past c.args.bytes.now c.loop-got.at _ c.in-Some.got c.loop-got.invariant.1
+    (was_whole c.args.bytes.now c.loop-got.at c.in_ok-got.field-0 c.in-Some.got c.in-Some.is c.in_ok-got.ensures.value c.in_ok-got.ensures.within c.in_ok-got.ensures.some)

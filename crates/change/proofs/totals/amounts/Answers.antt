@@ -3,7 +3,7 @@ use Rattle.std.proofs.lemmas.List.{take_all}
 use Rattle.std.proofs.lemmas.List.Sums.{sum_by_more}
 use Rattle.sheet.specs.declared.types.Payment.{Payment}
 use Rattle.change.specs.Totals.{amounts}
-use Rattle.replay.proofs.totals.held_by.Goals as goal
+use Rattle.change.proofs.totals.amounts.Goals as goal
 
 pub loop-p-preserved : goal.loop-p-preserved
 loop-p-preserved c =
