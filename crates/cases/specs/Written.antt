@@ -10,9 +10,10 @@ use Rattle.sheet_bytes.specs.Bytes.{number_bytes, sheet_bytes}
 use Rattle.outcome.specs.Acts.{Act, recorded, synced, sent_sheet, sent_signature, shown_sheet, shown_key}
 use Rattle.outcome.specs.Outcomes.{Outcome}
 use Rattle.looking.specs.Looking.{look_of}
-use Rattle.request_told.specs.Messages.{told_by}
-use Rattle.request_told.specs.Requests.{Wish, called, looked, request_of}
-use Rattle.request_told.specs.Requests as wish
+use Rattle.any_request.specs.Messages.{told_by}
+use Rattle.any_request.specs.Requests.{called}
+use Rattle.any_request.specs.Requests as wish
+use Rattle.request_told.specs.Requests.{Wish, looked, request_of}
 use Rattle.moments.specs.Runs.{Entry, message, call, outcome_of}
 use Rattle.promise_told.specs.World.{World, node_of, beginning}
 use Rattle.cases.specs.Rows.{terms, deposits, Step, given, look, up_to, event, found, after, Row}

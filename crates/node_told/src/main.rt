@@ -1,28 +1,17 @@
 // A node that looks at the register: reads messages, calls and looks, one a line, and answers each by a line `ok` or `no N`.
 #![tactic(auto)]
 
-use anyhow::anyhow;
 use looking::{Lateness, lateness};
+use node_folder::{Judged, OpenNode, attend};
 use node_state::Node;
 use outcome::Fault;
 use plan::Plan;
 use refusal::Refusal;
 use request_told::{Request, read_request};
 use std::alloc::{AllocError, Global};
-use std::env;
 use std::fs::File;
-use std::io::{BufRead, BufReader, Write};
 use std::process::ExitCode;
 use step::take;
-
-mod acts;
-mod guard;
-mod start;
-mod store;
-
-use acts::push_answer;
-use guard::Guard;
-use store::Store;
 
 const HELP: &str = "usage: node FOLDER
 
@@ -46,30 +35,8 @@ that comes more than `look` ticks after the last, and the first after a start, i
 
 docs/FORMATS.md has the lines and both files, docs/RULES.md what they mean.";
 
-// What the arguments ask for.
-enum Task {
-    Run(String),
-    Help,
-    Usage,
-}
-
-fn asked(rt: &HostRuntime) -> anyhow::Result<Task> {
-    let mut words = env::args(rt)?;
-    let _program = words.next();
-    let Some(word) = words.next() else {
-        return Ok(Task::Usage);
-    };
-    if word.as_str() == "--help" {
-        return Ok(Task::Help);
-    }
-    if words.next().is_some() {
-        return Ok(Task::Usage);
-    }
-    Ok(Task::Run(word))
-}
-
 // What the rules make of a line that was read, or that can't be; its acts stand in the plan.
-fn judged(
+fn taken(
     node: &mut Node,
     plan: &mut Plan,
     read: Result<Request, Refusal>,
@@ -86,10 +53,11 @@ fn warning(
     node: &Node,
     read: &Result<Request, Refusal>,
 ) -> Result<Option<String>, AllocError> {
-    let Ok(Request::Look { tick, .. }) = read else {
+    let Ok(Request::Look(look)) = read else {
         return Ok(None);
     };
-    let words = match lateness(node, *tick) {
+    let tick = look.tick;
+    let words = match lateness(node, tick) {
         Lateness::First => format!(in heap;
             "first look since the start, at tick {tick}: when the last was is not known"
         )?,
@@ -102,38 +70,17 @@ fn warning(
     Ok(Some(words))
 }
 
-// One line: the rules, then the acts in their order, then the answer, written at once.
-fn answer(rt: &HostRuntime, node: &mut Node, store: &mut Store, line: &[u8]) -> anyhow::Result<()> {
-    let heap = rt.alloc();
+// One line; its acts stand in the plan.
+fn judged(
+    heap: Global,
+    node: &mut Node,
+    plan: &mut Plan,
+    line: &[u8],
+) -> anyhow::Result<Judged> {
     let read = read_request(heap, line)?;
-    let warning = warning(heap, node, &read)?;
-    let mut plan = Plan::new(heap);
-    let answer = match judged(node, &mut plan, read) {
-        Ok(answer) => answer,
-        Err(Fault::Memory) => return Err(anyhow!("out of memory")),
-        Err(Fault::Failed) => return Err(anyhow!("an act failed")),
-    };
-    let mut out = Vec::new(heap);
-    store.carry_out(heap, plan.acts.as_slice(), &mut out)?;
-    push_answer(&mut out, answer)?;
-    rt.stdout().write_all(out.as_slice())?;
-    if let (Ok(()), Some(words)) = (answer, warning) {
-        let _ = eprintln!(rt; "node: {words}");
-    }
-    Ok(())
-}
-
-fn answer_lines(rt: &HostRuntime, node: &mut Node, store: &mut Store) -> anyhow::Result<()> {
-    let mut input = BufReader::new(rt.alloc(), rt.stdin())?;
-    let mut line = Vec::new(rt.alloc());
-    for _ in 0..u64::MAX {
-        line.clear();
-        if input.read_until(b'\n', &mut line)? == 0 {
-            break;
-        }
-        answer(rt, node, store, line.as_slice())?;
-    }
-    Ok(())
+    let said = warning(heap, node, &read)?;
+    let answer = taken(node, plan, read);
+    Ok(Judged { answer, said })
 }
 
 // Starts from the folder, and answers lines to the end of the input.
@@ -145,43 +92,13 @@ fn serve(rt: &HostRuntime, folder: &str) -> anyhow::Result<()> {
         File::open(rt, folder)?,
         File::open(rt, folder)?,
     );
-    let (mut node, mut store) = start::start(rt, folder)?;
-    answer_lines(rt, &mut node, &mut store)
+    let heap = rt.alloc();
+    let mut open = OpenNode::start(rt, folder)?;
+    open.answer_lines(rt, |node: &mut Node, plan: &mut Plan, line: &[u8]| {
+        judged(heap, node, plan, line)
+    })
 }
 
-// With the folder held against a second program.
-fn run(rt: &HostRuntime, folder: &str) -> anyhow::Result<()> {
-    let guard = Guard::take(rt, folder)?;
-    let result = serve(rt, folder);
-    guard.release(rt);
-    result
-}
-
-// Does what the arguments ask for; what stops it is said on standard error.
-fn attend(rt: &HostRuntime) -> anyhow::Result<()> {
-    match asked(rt)? {
-        Task::Run(folder) => match run(rt, folder.as_str()) {
-            Ok(()) => Ok(()),
-            Err(e) => {
-                eprintln!(rt; "node: {e}")?;
-                Err(e)
-            }
-        },
-        Task::Help => {
-            println!(rt; "{HELP}")?;
-            Ok(())
-        }
-        Task::Usage => {
-            eprintln!(rt; "node: one argument, its folder: node FOLDER (node --help says more)")?;
-            Err(anyhow!("usage"))
-        }
-    }
-}
-
-// What stops the program ends it with status 1.
 fn main(rt: HostRuntime) -> ExitCode {
-    match attend(&rt) {
-        Ok(()) => ExitCode::SUCCESS,
-        Err(_) => ExitCode::FAILURE,
-    }
+    attend(&rt, HELP, |folder: &str| serve(&rt, folder))
 }

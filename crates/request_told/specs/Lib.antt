@@ -1,3 +1,3 @@
 pub mod Looks
-pub mod Messages
 pub mod Requests
+pub mod Ticks

@@ -1,12 +1,15 @@
 // A look, and the statements of the register in it.
-ghost use Rattle.std.specs.Prelude.{◌≡◌, IfOk, vec_items};
+ghost use Rattle.std.specs.Prelude.{◌≡◌, ℕ, List, IfOk, vec_items};
 ghost use Rattle.std.specs.Option.{option_map};
 ghost use Rattle.lines.specs.Lines.{words, parts, colon};
 ghost use Rattle.request_told.specs.Looks.{dispute_read, key_shown_read, parts_show, words_show};
-ghost use Rattle.request_told.specs.Requests.{on_wish, tick_of};
+ghost use Rattle.looking.specs.declared.types.Shown.{Shown};
+ghost use Rattle.any_request.specs.Looks.{on_look};
+ghost use Rattle.request_told.specs.Ticks.{look_seen, tick_of};
 
-use crate::types::Request;
-use lines::{NumberFault, hex_array, next_part, next_word, number};
+use crate::types::TickShown;
+use any_request::{Look, read_tick};
+use lines::{hex_array, next_part, next_word, number};
 use looking::Shown;
 use refusal::Refusal;
 use std::alloc::{AllocError, Global};
@@ -17,23 +20,20 @@ const KEY_DIGITS: usize = 64;
 fn read_dispute(i: &[u8], middle: &[u8], last: &[u8]) -> Option<Shown>
     ensures { result ≡ dispute_read i.now middle.now last.now }
 {
-    match (number(i), number(middle), number(last)) {
-        (Ok(account), Ok(number), Ok(until)) => Some(Shown::Dispute {
-            account,
-            number,
-            until,
-        }),
-        _ => None,
-    }
+    Some(Shown::Dispute {
+        account: number(i).ok()?,
+        number: number(middle).ok()?,
+        until: number(last).ok()?,
+    })
 }
 
 fn read_shown_key(i: &[u8], middle: &[u8], last: &[u8]) -> Option<Shown>
     ensures { result ≡ key_shown_read i.now middle.now last.now }
 {
-    match (number(i), hex_array::<32>(middle), number(last)) {
-        (Ok(account), Some(key), Ok(tick)) => Some(Shown::Key { account, key, tick }),
-        _ => None,
-    }
+    let account = number(i).ok()?;
+    let key = hex_array::<32>(middle)?;
+    let tick = number(last).ok()?;
+    Some(Shown::Key { account, key, tick })
 }
 
 // A statement: I:NUMBER:UNTIL, or I:KEY:TICK. No number needs as many digits as a key.
@@ -70,18 +70,29 @@ fn read_shown(heap: Global, line: &[u8]) -> Result<Option<Vec<Shown>>, AllocErro
 }
 
 // tick T WORD .., past its first word.
-pub(crate) fn read_tick(heap: Global, line: &[u8]) -> Result<Result<Request, Refusal>, AllocError>
-    ensures { IfOk result (λ q. on_wish q ≡ tick_of (words line.now)) }
+fn read_look(heap: Global, line: &[u8]) -> Result<Result<TickShown, Refusal>, AllocError>
+    ensures { IfOk result (λ l. on_look look_seen l ≡ tick_of (words line.now)) }
 {
-    let Some(tick) = next_word(line) else {
+    let Some(word) = next_word(line) else {
         return Ok(Err(Refusal::Unreadable));
     };
-    let Some(shown) = read_shown(heap, tick.rest)? else {
+    let Some(shown) = read_shown(heap, word.rest)? else {
         return Ok(Err(Refusal::Unreadable));
     };
-    match number(tick.text) {
-        Ok(tick) => Ok(Ok(Request::Look { tick, shown })),
-        Err(NumberFault::NotANumber) => Ok(Err(Refusal::Unreadable)),
-        Err(NumberFault::TooLarge) => Ok(Err(Refusal::TooLarge)),
+    match read_tick(word.text) {
+        Ok(tick) => Ok(Ok(TickShown { tick, shown })),
+        Err(refusal) => Ok(Err(refusal)),
+    }
+}
+
+impl Look for TickShown {
+    ghost Seen = { ℕ × List Shown };
+
+    ghost seen = { look_seen };
+
+    ghost look_of = { tick_of };
+
+    fn read(heap: Global, line: &[u8]) -> Result<Result<TickShown, Refusal>, AllocError> {
+        read_look(heap, line)
     }
 }

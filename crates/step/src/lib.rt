@@ -26,7 +26,7 @@ fn done<O: Outside>(
     match request {
         Request::Message(account, told) => message(node, outside, *account, *told),
         Request::Asked(asked) => call(node, outside, *asked),
-        Request::Look { tick, shown } => look(node, outside, *tick, shown.as_slice()),
+        Request::Look(told) => look(node, outside, told.tick, told.shown.as_slice()),
     }
 }
 

@@ -1,7 +1,7 @@
 // The bytes of a message.
 ghost use Rattle.std.specs.Prelude.{◌≡◌};
 ghost use Rattle.sheet.specs.Contents.{content_of};
-ghost use Rattle.request_told.specs.Messages.{proposed_read, signature_read, key_read, message_read, pair_read, on_told, sheet_of};
+ghost use Rattle.any_request.specs.Messages.{proposed_read, signature_read, key_read, message_read, pair_read, on_told, sheet_of};
 
 use judgement::Signature;
 use refusal::Refusal;
@@ -22,9 +22,7 @@ fn read_proposed(bytes: &[u8]) -> Result<Sheet, Refusal>
     if bytes.is_empty() || bytes[0] != PROPOSED {
         return Err(Refusal::Unreadable);
     }
-    let Ok(got) = read_sheet_at(bytes, 1) else {
-        return Err(Refusal::Unreadable);
-    };
+    let got = read_sheet_at(bytes, 1).map_err(|_| Refusal::Unreadable)?;
     if got.used != bytes.len() - 1 {
         return Err(Refusal::Unreadable);
     }
@@ -38,9 +36,7 @@ fn read_signature(bytes: &[u8]) -> Result<Signature, Refusal>
     if bytes.len() != 6 || bytes[0] != SIGNED {
         return Err(Refusal::Unreadable);
     }
-    let Some(number) = read_number(bytes, 2) else {
-        return Err(Refusal::Unreadable);
-    };
+    let number = read_number(bytes, 2).ok_or(Refusal::Unreadable)?;
     Ok(Signature {
         account: bytes[1],
         number,
@@ -66,18 +62,9 @@ pub(crate) fn read_message(bytes: &[u8]) -> Result<Message, Refusal>
         return Err(Refusal::Unreadable);
     }
     match bytes[0] {
-        PROPOSED => match read_proposed(bytes) {
-            Ok(sheet) => Ok(Message::Proposed(sheet)),
-            Err(refusal) => Err(refusal),
-        },
-        SIGNED => match read_signature(bytes) {
-            Ok(signature) => Ok(Message::Signed(signature)),
-            Err(refusal) => Err(refusal),
-        },
-        _ => match read_key(bytes) {
-            Ok(key) => Ok(Message::Key(key)),
-            Err(refusal) => Err(refusal),
-        },
+        PROPOSED => Ok(Message::Proposed(read_proposed(bytes)?)),
+        SIGNED => Ok(Message::Signed(read_signature(bytes)?)),
+        _ => Ok(Message::Key(read_key(bytes)?)),
     }
 }
 
@@ -85,12 +72,8 @@ pub(crate) fn read_message(bytes: &[u8]) -> Result<Message, Refusal>
 pub(crate) fn read_pair(sheet: &[u8], signature: &[u8]) -> Result<Message, Refusal>
     ensures { on_told result ≡ pair_read sheet.now signature.now }
 {
-    let sheet = match read_proposed(sheet) {
-        Ok(sheet) => sheet,
-        Err(refusal) => return Err(refusal),
-    };
-    match read_signature(signature) {
-        Ok(signature) => Ok(Message::ProposedSigned(sheet, signature)),
-        Err(refusal) => Err(refusal),
-    }
+    Ok(Message::ProposedSigned(
+        read_proposed(sheet)?,
+        read_signature(signature)?,
+    ))
 }

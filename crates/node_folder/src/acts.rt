@@ -1,6 +1,5 @@
 // What acts look like on lines.
 use lines::{push_hex, push_number};
-use plan::Act;
 use refusal::Refusal;
 use sheet::Sheet;
 use sheet_bytes::push_sheet;
@@ -35,10 +34,6 @@ fn push_signature_hex(out: &mut Vec<u8>, account: usize, number: u32) -> Result<
     push_hex(out, &[2, (account & 0xff) as u8, a, b, c, d])
 }
 
-fn push_key_hex(out: &mut Vec<u8>, key: [u8; 32]) -> Result<(), AllocError> {
-    push_hex(out, &key)
-}
-
 // A sheet of the node's own and its signature under it, as one line.
 pub(crate) fn push_send(
     out: &mut Vec<u8>,
@@ -54,30 +49,41 @@ pub(crate) fn push_send(
     Ok(())
 }
 
-// The line of an act that leaves the node; nothing for the others.
-pub(crate) fn push_act(out: &mut Vec<u8>, heap: Global, act: &Act) -> Result<(), AllocError> {
-    match *act {
-        Act::SendSheet(account, sheet) => push_send(out, heap, account, &sheet),
-        Act::SendSignature(account, number) => {
-            push_head(out, b"send", account)?;
-            push_signature_hex(out, account, number)?;
-            out.push(b'\n')?;
-            Ok(())
-        }
-        Act::ShowSheet(account, sheet) => {
-            push_head(out, b"show", account)?;
-            push_sheet_hex(out, heap, &[], &sheet)?;
-            out.push(b'\n')?;
-            Ok(())
-        }
-        Act::ShowKey(account, key) => {
-            push_head(out, b"key", account)?;
-            push_key_hex(out, key)?;
-            out.push(b'\n')?;
-            Ok(())
-        }
-        _ => Ok(()),
-    }
+// The signature alone.
+pub(crate) fn push_signature(
+    out: &mut Vec<u8>,
+    account: usize,
+    number: u32,
+) -> Result<(), AllocError> {
+    push_head(out, b"send", account)?;
+    push_signature_hex(out, account, number)?;
+    out.push(b'\n')?;
+    Ok(())
+}
+
+// A sheet for the register.
+pub(crate) fn push_show(
+    out: &mut Vec<u8>,
+    heap: Global,
+    account: usize,
+    sheet: &Sheet,
+) -> Result<(), AllocError> {
+    push_head(out, b"show", account)?;
+    push_sheet_hex(out, heap, &[], sheet)?;
+    out.push(b'\n')?;
+    Ok(())
+}
+
+// A key for the register.
+pub(crate) fn push_key(
+    out: &mut Vec<u8>,
+    account: usize,
+    key: &[u8; 32],
+) -> Result<(), AllocError> {
+    push_head(out, b"key", account)?;
+    push_hex(out, key)?;
+    out.push(b'\n')?;
+    Ok(())
 }
 
 // The last line of an answer.

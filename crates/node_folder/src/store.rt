@@ -1,6 +1,7 @@
 // The node's file: records are appended to it, and it is synced.
-use crate::acts::push_act;
+use crate::acts::{push_key, push_send, push_show, push_signature};
 use journal::{Record, push_record};
+use node_state::Route;
 use plan::Act;
 use std::alloc::{AllocError, Global};
 use std::fs::File;
@@ -25,18 +26,22 @@ impl Store {
         push_record(&mut self.pending, record)
     }
 
-    // What is pending is in the file, and outlasts a stop.
-    pub(crate) fn sync(&mut self) -> anyhow::Result<()> {
+    fn write_pending(&mut self) -> anyhow::Result<()> {
         self.file.write_all(self.pending.as_slice())?;
         self.pending.clear();
+        Ok(())
+    }
+
+    // What is pending is in the file, and outlasts a stop.
+    pub(crate) fn sync(&mut self) -> anyhow::Result<()> {
+        self.write_pending()?;
         self.file.sync_data()?;
         Ok(())
     }
 
     // Length and contents outlast a stop: what an earlier program wrote too.
     pub(crate) fn sync_all(&mut self) -> anyhow::Result<()> {
-        self.file.write_all(self.pending.as_slice())?;
-        self.pending.clear();
+        self.write_pending()?;
         self.file.sync_all()?;
         Ok(())
     }
@@ -50,14 +55,15 @@ impl Store {
         match *act {
             Act::RecordSigned(_, sheet) => self.append(&Record::Signed(sheet))?,
             Act::RecordBoth(_, sheet) => self.append(&Record::Both(sheet))?,
-            Act::RecordPassed(lock, route) => {
-                let from = route.from;
-                let to = route.to;
-                self.append(&Record::Passed { lock, from, to })?;
+            Act::RecordPassed(lock, Route { from, to }) => {
+                self.append(&Record::Passed { lock, from, to })?
             }
             Act::RecordKey(key) => self.append(&Record::Key(key))?,
             Act::Sync => self.sync()?,
-            _ => push_act(out, heap, act)?,
+            Act::SendSheet(account, sheet) => push_send(out, heap, account, &sheet)?,
+            Act::SendSignature(account, number) => push_signature(out, account, number)?,
+            Act::ShowSheet(account, sheet) => push_show(out, heap, account, &sheet)?,
+            Act::ShowKey(account, key) => push_key(out, account, &key)?,
         }
         Ok(())
     }

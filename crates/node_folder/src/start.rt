@@ -10,7 +10,7 @@ use sheet::Sheet;
 use std::fs;
 use std::fs::{File, OpenOptions};
 use std::io::{ErrorKind, Write};
-use terms::{Agreed, Wrong, read_terms};
+use terms::{Agreed, Deposits, Wrong, read_terms};
 
 // What is wrong with a line of the terms, in words.
 fn words_of(wrong: Wrong) -> &'static str {
@@ -57,33 +57,35 @@ fn agreed(rt: &HostRuntime, folder: &str) -> anyhow::Result<Agreed> {
     }
 }
 
+// How many bytes the record of an account's first sheet has.
+const FIRST_BYTES: usize = 16;
+
+// The deposits of the accounts.
+fn deposits(agreed: &Agreed) -> &[Deposits] {
+    &agreed.deposits[..agreed.count.min(16)]
+}
+
 // Is the first sheet of account i the one that the terms say.
-fn is_agreed(bytes: &[u8], i: usize, agreed: &Agreed) -> bool {
-    if i >= agreed.count || i >= 16 {
+fn is_agreed(bytes: &[u8], i: usize, deposits: &Deposits) -> bool {
+    let Reading::Whole(got) = read_record(bytes, i.saturating_mul(FIRST_BYTES)) else {
         return false;
-    }
-    match read_record(bytes, 16 * i) {
-        Reading::Whole(got) => match got.record {
-            Record::Both(sheet) => {
-                sheet.own == agreed.deposits[i].own && sheet.theirs == agreed.deposits[i].theirs
-            }
-            _ => false,
-        },
-        _ => false,
-    }
+    };
+    let Record::Both(sheet) = got.record else {
+        return false;
+    };
+    sheet.own == deposits.own && sheet.theirs == deposits.theirs
 }
 
 // Are the first sheets of the file those of the terms, or a first part of them with nothing after.
 fn fits_terms(bytes: &[u8], firsts: usize, others: bool, agreed: &Agreed) -> bool {
-    if firsts > 16 {
-        return false;
-    }
-    for i in 0..firsts {
-        if !is_agreed(bytes, i, agreed) {
-            return false;
-        }
-    }
-    firsts == agreed.count || !others
+    let deposits = deposits(agreed);
+    firsts <= deposits.len()
+        && (firsts == deposits.len() || !others)
+        && deposits
+            .iter()
+            .enumerate()
+            .take(firsts)
+            .all(|(i, deposits)| is_agreed(bytes, i, deposits))
 }
 
 // The file's bytes; none where there is no file yet.
@@ -103,12 +105,8 @@ fn contents(rt: &HostRuntime, path: &str) -> anyhow::Result<Option<Vec<u8>>> {
 // The accounts that the file doesn't have yet are opened and recorded.
 fn open_missing(node: &mut Node, store: &mut Store, agreed: &Agreed) -> anyhow::Result<()> {
     let firsts = node.many();
-    for i in firsts..16 {
-        if i >= agreed.count {
-            break;
-        }
-        let own = agreed.deposits[i].own;
-        let theirs = agreed.deposits[i].theirs;
+    for (i, deposits) in deposits(agreed).iter().enumerate().skip(firsts) {
+        let Deposits { own, theirs } = *deposits;
         if node.open_account(own, theirs) {
             store.append(&Record::Both(Sheet::first((i & 0xff) as u8, own, theirs)))?;
         }
@@ -140,7 +138,7 @@ fn refused(rt: &HostRuntime, path: &str, words: &str) -> anyhow::Result<(Node, S
 }
 
 // The node and its open file, cut back to its last whole record, completed and synced.
-fn opened(
+fn completed(
     rt: &HostRuntime,
     folder: &str,
     path: &str,
@@ -149,10 +147,7 @@ fn opened(
     let heap = rt.alloc();
     let found = contents(rt, path)?;
     let is_new = found.is_none();
-    let bytes = match found {
-        Some(bytes) => bytes,
-        None => Vec::new(heap),
-    };
+    let bytes = found.unwrap_or(Vec::new(heap));
     let terms = Terms {
         gap: agreed.terms.gap,
         window: agreed.terms.window,
@@ -185,10 +180,10 @@ fn opened(
 }
 
 // The node from its folder, ready for lines.
-pub(crate) fn start(rt: &HostRuntime, folder: &str) -> anyhow::Result<(Node, Store)> {
+pub(crate) fn opened(rt: &HostRuntime, folder: &str) -> anyhow::Result<(Node, Store)> {
     let agreed = agreed(rt, folder)?;
     let path = format!(in rt.alloc(); "{folder}/accounts")?;
-    let (node, store) = opened(rt, folder, path.as_str(), &agreed)?;
+    let (node, store) = completed(rt, folder, path.as_str(), &agreed)?;
     send_again(rt, &node)?;
     Ok((node, store))
 }

@@ -1,6 +1,5 @@
 // One program to a folder: a file `running` names the process that works with it.
 use anyhow::anyhow;
-use lines::next_word;
 use std::fs::File;
 use std::io::Write;
 use std::{fs, process};
@@ -11,40 +10,33 @@ pub(crate) struct Guard {
     path: String,
 }
 
-// When a process began, as the system counts it: the 22nd field of its status line. It tells a process from a later
-// one with the same number. None where there is no such process.
-fn began(rt: &HostRuntime, pid: &str) -> anyhow::Result<Option<String>> {
-    let heap = rt.alloc();
-    let path = format!(in heap; "/proc/{pid}/stat")?;
-    let Ok(text) = fs::read(rt, path.as_str()) else {
-        return Ok(None);
-    };
-    let mut rest = after_name(text.as_slice());
-    for _ in 0..19 {
-        match next_word(rest) {
-            Some(word) => rest = word.rest,
-            None => return Ok(None),
-        }
-    }
-    let Some(word) = next_word(rest) else {
-        return Ok(None);
-    };
-    let mut field = String::new(heap);
-    for b in word.text {
-        field.push(char::from(*b))?;
-    }
-    Ok(Some(field))
-}
-
 // What follows the last closing bracket: a process may have any name.
 fn after_name(text: &[u8]) -> &[u8] {
-    let mut rest = text;
-    for (i, b) in text.iter().enumerate() {
-        if *b == b')' {
-            rest = &text[i + 1..];
-        }
+    match text.rsplit(|b| *b == b')').next() {
+        Some(rest) => rest,
+        None => text,
     }
-    rest
+}
+
+// When a process began, as the system counts it: the 22nd field of its status line, which is the 20th word after its name.
+fn beginning(status: &[u8]) -> Option<&[u8]> {
+    after_name(status)
+        .split(|b| *b == b' ')
+        .filter(|word| !word.is_empty())
+        .nth(19)
+}
+
+// The beginning tells a process from a later one with the same number. None where there is no such process.
+fn began(rt: &HostRuntime, pid: &str) -> anyhow::Result<Option<Vec<u8>>> {
+    let heap = rt.alloc();
+    let path = format!(in heap; "/proc/{pid}/stat")?;
+    let Ok(status) = fs::read(rt, path.as_str()) else {
+        return Ok(None);
+    };
+    match beginning(status.as_slice()) {
+        Some(when) => Ok(Some(when.to_vec(heap)?)),
+        None => Ok(None),
+    }
 }
 
 // Does the process that the file names still run.
@@ -53,7 +45,7 @@ fn still_runs(rt: &HostRuntime, text: &str) -> anyhow::Result<bool> {
         return Ok(false);
     };
     match began(rt, pid)? {
-        Some(now) => Ok(now.as_str() == when),
+        Some(now) => Ok(now.as_slice() == when.as_bytes()),
         None => Ok(false),
     }
 }
@@ -80,12 +72,12 @@ impl Guard {
         let pid = format!(in heap; "{pid}")?;
         let when = match began(rt, pid.as_str())? {
             Some(when) => when,
-            None => String::from_str(heap, "unknown")?,
+            None => b"unknown".to_vec(heap)?,
         };
         let mut file = File::create_new(rt, path.as_str())?;
         file.write_all(pid.as_bytes())?;
         file.write_all(b" ")?;
-        file.write_all(when.as_bytes())?;
+        file.write_all(when.as_slice())?;
         Ok(Guard { path })
     }
 

@@ -2,25 +2,26 @@
 ghost use Rattle.std.specs.Prelude.{◌≡◌, IfOk};
 ghost use Rattle.std.specs.Option.{option_map};
 ghost use Rattle.lines.specs.Lines.{words};
-ghost use Rattle.request_told.specs.Messages.{on_told};
-ghost use Rattle.request_told.specs.Requests.{on_wish, one_told, two_told, told_in, message_of, line_of, asked_by, text_of};
+ghost use Rattle.any_request.specs.Looks.{on_look};
+ghost use Rattle.any_request.specs.Messages.{on_told};
+ghost use Rattle.any_request.specs.Requests.{on_wish, one_told, two_told, told_in, from, calling, looking, message_of, line_of, asked_by, text_of};
 
 use crate::calls::{is_word, read_get, read_give, read_pass, read_pay};
-use crate::looks::read_tick;
+use crate::looks::Look;
 use crate::messages::{read_message, read_pair};
 use crate::types::Request;
 use lines::{hex_bytes, next_word, number};
 use refusal::Refusal;
-use rules::Message;
+use rules::{Call, Message};
 use std::alloc::{AllocError, Global};
 
 fn told_one(heap: Global, word: &[u8]) -> Result<Result<Message, Refusal>, AllocError>
     ensures { IfOk result (λ m. on_told m ≡ one_told word.now) }
 {
-    match hex_bytes(heap, word)? {
-        Some(bytes) => Ok(read_message(bytes.as_slice())),
-        None => Ok(Err(Refusal::Unreadable)),
-    }
+    let Some(bytes) = hex_bytes(heap, word)? else {
+        return Ok(Err(Refusal::Unreadable));
+    };
+    Ok(read_message(bytes.as_slice()))
 }
 
 fn told_two(
@@ -52,9 +53,32 @@ fn told_by(heap: Global, word: &[u8], rest: &[u8]) -> Result<Result<Message, Ref
     told_two(heap, word, second.text)
 }
 
+// What is read is what is asked.
+fn from<L: Look>(account: u32, told: Result<Message, Refusal>) -> Result<Request<L>, Refusal>
+    ensures { on_wish L.seen result ≡ from account (on_told told) }
+{
+    Ok(Request::Message(account, told?))
+}
+
+fn calling<L: Look>(call: Result<Call, Refusal>) -> Result<Request<L>, Refusal>
+    ensures { on_wish L.seen result ≡ calling call }
+{
+    Ok(Request::Asked(call?))
+}
+
+fn looking<L: Look>(look: Result<L, Refusal>) -> Result<Request<L>, Refusal>
+    ensures { on_wish L.seen result ≡ looking (on_look L.seen look) }
+{
+    Ok(Request::Look(look?))
+}
+
 // I HEX, or I HEX HEX, past its first word.
-fn read_told(heap: Global, i: &[u8], line: &[u8]) -> Result<Result<Request, Refusal>, AllocError>
-    ensures { IfOk result (λ q. on_wish q ≡ message_of i.now (words line.now)) }
+fn read_told<L: Look>(
+    heap: Global,
+    i: &[u8],
+    line: &[u8],
+) -> Result<Result<Request<L>, Refusal>, AllocError>
+    ensures { IfOk result (λ q. on_wish L.seen q ≡ message_of i.now (words line.now)) }
 {
     let Some(word) = next_word(line) else {
         return Ok(Err(Refusal::Unreadable));
@@ -62,26 +86,27 @@ fn read_told(heap: Global, i: &[u8], line: &[u8]) -> Result<Result<Request, Refu
     let Ok(account) = number(i) else {
         return Ok(Err(Refusal::Unreadable));
     };
-    match told_by(heap, word.text, word.rest)? {
-        Ok(message) => Ok(Ok(Request::Message(account, message))),
-        Err(refusal) => Ok(Err(refusal)),
-    }
+    Ok(from(account, told_by(heap, word.text, word.rest)?))
 }
 
 // A line by its first word.
-fn read_by(heap: Global, word: &[u8], rest: &[u8]) -> Result<Result<Request, Refusal>, AllocError>
-    ensures { IfOk result (λ q. on_wish q ≡ line_of word.now (words rest.now)) }
+fn read_by<L: Look>(
+    heap: Global,
+    word: &[u8],
+    rest: &[u8],
+) -> Result<Result<Request<L>, Refusal>, AllocError>
+    ensures { IfOk result (λ q. on_wish L.seen q ≡ line_of L.look_of word.now (words rest.now)) }
 {
     if is_word(word, b"pass") {
-        Ok(read_pass(rest))
+        Ok(calling(read_pass(rest)))
     } else if is_word(word, b"pay") {
-        Ok(read_pay(rest))
+        Ok(calling(read_pay(rest)))
     } else if is_word(word, b"get") {
-        Ok(read_get(rest))
+        Ok(calling(read_get(rest)))
     } else if is_word(word, b"give") {
-        Ok(read_give(rest))
+        Ok(calling(read_give(rest)))
     } else if is_word(word, b"tick") {
-        read_tick(heap, rest)
+        Ok(looking(L::read(heap, rest)?))
     } else {
         read_told(heap, word, rest)
     }
@@ -99,8 +124,11 @@ fn text_of(line: &[u8]) -> Option<&[u8]>
 }
 
 // A line with its newline.
-pub(crate) fn read_line(heap: Global, line: &[u8]) -> Result<Result<Request, Refusal>, AllocError>
-    ensures { IfOk result (λ q. on_wish q ≡ asked_by (text_of line.now)) }
+pub(crate) fn read_line<L: Look>(
+    heap: Global,
+    line: &[u8],
+) -> Result<Result<Request<L>, Refusal>, AllocError>
+    ensures { IfOk result (λ q. on_wish L.seen q ≡ asked_by L.look_of (text_of line.now)) }
 {
     let Some(text) = text_of(line) else {
         return Ok(Err(Refusal::Unreadable));

@@ -2,11 +2,11 @@
 use rules::{Call, Message as Told};
 
 // A message comes from the neighbour of an account; a key is taken whatever account it names.
-#[derive(Clone, Copy)]
-pub enum Request {
+#[derive(Clone, Copy, Drop)]
+pub enum Request<L> {
     Message(u32, Told),
     Asked(Call),
-    Look(u32),
+    Look(L),
 }
 
 // An account and a lock, as three of the calls have them.

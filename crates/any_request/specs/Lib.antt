@@ -1,0 +1,4 @@
+pub mod Looks
+pub mod Messages
+pub mod Requests
+pub mod Words
