@@ -21,12 +21,12 @@ const GROUND: &str = "fill=\"#ffffff\"";
 fn put_head(canvas: &mut Canvas, picture: &Picture, layout: &Layout) -> Result<(), AllocError> {
     canvas.open(layout.width, layout.height)?;
     canvas.put("<title>")?;
-    canvas.put_escaped(picture.title.as_slice())?;
+    canvas.put_escaped(picture.title.as_bytes())?;
     canvas.put("</title>\n")?;
     let corner = Place { x: 0, y: 0 };
     canvas.rectangle(corner, layout.width, layout.height, GROUND)?;
     let title = "class=\"title\" font-size=\"16\" fill=\"#222222\"";
-    canvas.text(Place { x: 20, y: 28 }, title, "", picture.title.as_slice())?;
+    canvas.text(Place { x: 20, y: 28 }, title, "", picture.title.as_bytes())?;
     let legend = "font-size=\"11\" fill=\"#666666\"";
     canvas.text(Place { x: 20, y: 48 }, legend, "", LEGEND)
 }
@@ -54,7 +54,7 @@ fn put_lane(
     canvas.rectangle(corner, 120, 26, style)?;
     let name = layout.in_lane(at, top.saturating_add(18));
     let style = "fill=\"#222222\" text-anchor=\"middle\" font-weight=\"bold\"";
-    canvas.text(name, style, "", lane.name.as_slice())
+    canvas.text(name, style, "", lane.name.as_bytes())
 }
 
 fn put_lanes(canvas: &mut Canvas, layout: &Layout, lanes: &[Lane]) -> Result<(), AllocError> {
@@ -90,23 +90,15 @@ fn put_ticks(canvas: &mut Canvas, layout: &Layout, rows: &[Row]) -> Result<(), A
 }
 
 fn ends_bar(row: &Row, lane: usize, bar: usize) -> bool {
-    match row.mark {
-        Mark::BarEnds {
-            lane: its_lane,
-            bar: its_bar,
-        } => its_lane == lane && its_bar == bar,
-        _ => false,
-    }
+    row.mark == Mark::BarEnds { lane, bar }
 }
 
 // The row in which a bar that begins in a row ends, or how many rows there are.
 fn end_of_bar(rows: &[Row], begins: usize, lane: usize, bar: usize) -> usize {
-    for (at, row) in rows.iter().enumerate() {
-        if begins < at && ends_bar(row, lane, bar) {
-            return at;
-        }
-    }
-    rows.len()
+    rows.iter()
+        .enumerate()
+        .find(|(at, row)| begins < *at && ends_bar(row, lane, bar))
+        .map_or(rows.len(), |(at, _)| at)
 }
 
 fn put_bars(canvas: &mut Canvas, layout: &Layout, rows: &[Row]) -> Result<(), AllocError> {
@@ -159,7 +151,7 @@ fn put_arrow(
         y: y.saturating_sub(5),
     };
     let style = if row.refused { RED_CENTRED } else { CENTRED };
-    canvas.text(place, style, word_before(row), row.text.as_slice())
+    canvas.text(place, style, word_before(row), row.text.as_bytes())
 }
 
 // The sign of a mark in its lane.
@@ -203,7 +195,7 @@ fn put_beside(canvas: &mut Canvas, row: &Row, sign: Place, x: u64) -> Result<(),
         y: sign.y.saturating_add(4),
     };
     let style = if row.refused { RED } else { PLAIN };
-    canvas.text(place, style, word_before(row), row.text.as_slice())
+    canvas.text(place, style, word_before(row), row.text.as_bytes())
 }
 
 fn put_row(canvas: &mut Canvas, layout: &Layout, at: usize, row: &Row) -> Result<(), AllocError> {

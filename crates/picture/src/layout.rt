@@ -50,25 +50,23 @@ fn lane_wanted(row: &Row) -> u64 {
     let Mark::Arrow { from, to } = row.mark else {
         return 0;
     };
-    let apart = if from < to { to - from } else { from - to };
-    text_width(row).saturating_add(36) / (apart as u64).max(1)
+    let apart = from.abs_diff(to) as u64;
+    text_width(row).saturating_add(36) / apart.max(1)
 }
 
 fn lane_distance(rows: &[Row]) -> u64 {
-    let mut widest: u64 = 150;
-    for row in rows {
-        widest = widest.max(lane_wanted(row));
-    }
-    widest.min(360)
+    rows.iter()
+        .map(|row| lane_wanted(row))
+        .max()
+        .unwrap_or(0)
+        .clamp(150, 360)
 }
 
 fn lane_of_bars(rows: &[Row]) -> Option<usize> {
-    for row in rows {
-        if let Mark::BarBegins { lane, .. } = row.mark {
-            return Some(lane);
-        }
-    }
-    None
+    rows.iter().find_map(|row| match row.mark {
+        Mark::BarBegins { lane, .. } => Some(lane),
+        _ => None,
+    })
 }
 
 fn bars_wanted(row: &Row) -> u64 {
@@ -79,11 +77,7 @@ fn bars_wanted(row: &Row) -> u64 {
 }
 
 fn bar_count(rows: &[Row]) -> u64 {
-    let mut most: u64 = 0;
-    for row in rows {
-        most = most.max(bars_wanted(row));
-    }
-    most
+    rows.iter().map(|row| bars_wanted(row)).max().unwrap_or(0)
 }
 
 impl Layout {
@@ -107,11 +101,7 @@ impl Layout {
 
     // The right end of the texts.
     fn right_of_texts(&self, rows: &[Row]) -> u64 {
-        let mut right: u64 = 0;
-        for row in rows {
-            right = right.max(self.right_of(row));
-        }
-        right
+        rows.iter().map(|row| self.right_of(row)).max().unwrap_or(0)
     }
 
     fn right_of(&self, row: &Row) -> u64 {

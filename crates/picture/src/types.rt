@@ -10,12 +10,12 @@ pub struct Total {
 // A line downwards, for a party or for the register.
 #[derive(Drop)]
 pub struct Lane {
-    pub name: Vec<u8>,
+    pub name: String,
     pub total: Option<Total>,
 }
 
 // What is drawn in a row. Lanes go by their number from the left, and the bars of a lane, which stand side by side, by theirs.
-#[derive(Clone, Copy)]
+#[derive(Clone, Copy, PartialEq, Eq)]
 pub enum Mark {
     // a message or a signature, from lane to lane
     Arrow { from: usize, to: usize },
@@ -34,12 +34,12 @@ pub struct Row {
     pub tick: u32,
     pub mark: Mark,
     pub refused: bool,
-    pub text: Vec<u8>,
+    pub text: String,
 }
 
 #[derive(Drop)]
 pub struct Picture {
-    pub title: Vec<u8>,
+    pub title: String,
     pub lanes: Vec<Lane>,
     pub rows: Vec<Row>,
 }

@@ -1,8 +1,10 @@
 // What a script calls things.
-use lines::{next_word, part_at};
+use crate::names::{Name, Pair, Side};
+use lines::part_at;
 use script::{Command, Script};
 use small_keys::lock_of;
 use std::alloc::{AllocError, Global};
+use std::str;
 
 // The number of a key, and its lock.
 #[derive(Clone, Copy)]
@@ -23,38 +25,21 @@ pub(crate) struct Cast {
 // The key that a command names.
 fn key_in(command: &Command) -> Option<u32> {
     match *command {
-        Command::Offers { promised, .. } => Some(promised.key),
-        Command::Passes { promised, .. } => Some(promised.key),
-        Command::KeyTo { key, .. } => Some(key),
-        Command::ShowsKey { key, .. } => Some(key),
+        Command::Offers { promised, .. } | Command::Passes { promised, .. } => Some(promised.key),
+        Command::KeyTo { key, .. } | Command::ShowsKey { key, .. } => Some(key),
         _ => None,
     }
 }
 
-fn has_number(locks: &[NamedLock], number: u32) -> bool {
-    for named in locks {
-        if named.number == number {
-            return true;
-        }
-    }
-    false
-}
-
-fn add_lock(locks: &mut Vec<NamedLock>, number: u32) -> Result<(), AllocError> {
-    if has_number(locks.as_slice(), number) {
-        return Ok(());
-    }
-    let lock = lock_of(number);
-    locks.push(NamedLock { number, lock })?;
-    Ok(())
-}
-
 // The locks of the keys that a script names.
 fn locks_of(heap: Global, script: &Script) -> Result<Vec<NamedLock>, AllocError> {
-    let mut locks = Vec::new(heap);
+    let mut locks: Vec<NamedLock> = Vec::new(heap);
     for step in script.steps.iter() {
         if let Some(number) = key_in(&step.command) {
-            add_lock(&mut locks, number)?;
+            if locks.iter().all(|named| named.number != number) {
+                let lock = lock_of(number);
+                locks.push(NamedLock { number, lock })?;
+            }
         }
     }
     Ok(locks)
@@ -62,14 +47,19 @@ fn locks_of(heap: Global, script: &Script) -> Result<Vec<NamedLock>, AllocError>
 
 // A line of a text, counted from 1, without its comment.
 pub(crate) fn line_at(text: &[u8], line: u32) -> &[u8] {
-    let mut rest = text;
-    for _turn in 1..line {
-        match part_at(rest, b'\n').rest {
-            Some(more) => rest = more,
-            None => return &[],
-        }
+    let before = line.saturating_sub(1) as usize;
+    match text.split(|b| *b == b'\n').nth(before) {
+        Some(found) => part_at(found, b'#').text,
+        None => &[],
     }
-    part_at(part_at(rest, b'\n').text, b'#').text
+}
+
+// The number that a key stands for, where it is one.
+fn key_number(key: &[u8; 32]) -> Option<u32> {
+    if key[..28].iter().any(|b| *b != 0) {
+        return None;
+    }
+    Some(u32::from_be_bytes([key[28], key[29], key[30], key[31]]))
 }
 
 impl Cast {
@@ -83,52 +73,65 @@ impl Cast {
         })
     }
 
-    // The number of the key of a lock.
-    pub(crate) fn number_of(&self, lock: &[u8; 32]) -> Option<u32> {
-        for named in self.locks.iter() {
-            if named.lock == *lock {
-                return Some(named.number);
-            }
-        }
-        None
-    }
-
-    pub(crate) fn push_party(&self, out: &mut Vec<u8>, party: usize) -> Result<(), AllocError> {
+    pub(crate) fn party(&self, party: usize) -> &str {
         match self.script.parties.get(party) {
-            Some(found) => out.extend_from_slice(found.name.as_slice()),
-            None => Ok(()),
+            Some(found) => found.name.as_str(),
+            None => "",
         }
     }
 
     // The parties of an account.
-    pub(crate) fn pair(&self, account: usize) -> (usize, usize) {
+    pub(crate) fn pair(&self, account: usize) -> Pair<'_> {
         match self.script.openings.get(account) {
-            Some(opening) => (opening.first, opening.second),
-            None => (0, 0),
+            Some(opening) => Pair {
+                first: self.party(opening.first),
+                second: self.party(opening.second),
+            },
+            None => Pair {
+                first: "",
+                second: "",
+            },
         }
     }
 
-    // The party that an account of a party is with.
-    pub(crate) fn neighbour(&self, account: usize, party: usize) -> usize {
-        let (first, second) = self.pair(account);
-        if first == party { second } else { first }
+    // A node, and the party that its account is with.
+    pub(crate) fn side(&self, node: usize, account: usize) -> Side<'_> {
+        let neighbour = match self.script.openings.get(account) {
+            Some(opening) if opening.first == node => self.party(opening.second),
+            Some(opening) => self.party(opening.first),
+            None => "",
+        };
+        Side {
+            node: self.party(node),
+            neighbour,
+        }
     }
 
-    // The words of a line of the script, with one space between them.
-    pub(crate) fn push_line(&self, out: &mut Vec<u8>, line: u32) -> Result<(), AllocError> {
-        let text = line_at(self.text.as_slice(), line);
-        let mut rest = text;
-        let mut is_first = true;
-        for _turn in 0..text.len() {
-            let Some(word) = next_word(rest) else {
-                return Ok(());
-            };
-            if !is_first {
-                out.extend_from_slice(b" ")?;
+    pub(crate) fn key(&self, key: &[u8; 32]) -> Name {
+        match key_number(key) {
+            Some(number) => Name::Number(number),
+            None => Name::Bytes(*key),
+        }
+    }
+
+    // A lock goes by the number of its key.
+    pub(crate) fn lock(&self, lock: &[u8; 32]) -> Name {
+        match self.locks.iter().find(|named| named.lock == *lock) {
+            Some(named) => Name::Number(named.number),
+            None => Name::Bytes(*lock),
+        }
+    }
+
+    // The words of a line of the script, with one space between them. All words of a line that is played are ASCII.
+    pub(crate) fn push_line(&self, out: &mut String, line: u32) -> Result<(), AllocError> {
+        let words = line_at(self.text.as_slice(), line)
+            .split(|b| *b == b' ')
+            .filter(|word| !word.is_empty());
+        for (at, word) in words.enumerate() {
+            if at > 0 {
+                out.push_str(" ")?;
             }
-            out.extend_from_slice(word.text)?;
-            is_first = false;
-            rest = word.rest;
+            out.push_str(str::from_utf8(word).unwrap_or(""))?;
         }
         Ok(())
     }

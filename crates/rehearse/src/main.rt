@@ -4,7 +4,7 @@
 use crate::cast::Cast;
 use anyhow::anyhow;
 use script::{ReadFault, Script, read_script};
-use stage::{Event, Trouble, play};
+use stage::{Event, play};
 use std::alloc::AllocError;
 use std::io::Write;
 use std::process::ExitCode;
@@ -14,7 +14,9 @@ mod cast;
 mod drawing;
 mod faults;
 mod json;
-mod pieces;
+mod lanes;
+mod names;
+mod sketch;
 mod text;
 
 use drawing::drawn;
@@ -91,16 +93,8 @@ fn asked(rt: &HostRuntime) -> anyhow::Result<Task> {
     }
 }
 
-fn words_of(trouble: Trouble) -> &'static str {
-    match trouble {
-        Trouble::Memory => "out of memory",
-        Trouble::Failed => "an act failed",
-        Trouble::Damaged => "a node could not be started from its records",
-    }
-}
-
-fn told(cast: &Cast, events: &[Event], as_json: bool) -> Result<Vec<u8>, AllocError> {
-    let mut out = Vec::new(cast.heap);
+fn told(cast: &Cast, events: &[Event], as_json: bool) -> Result<String, AllocError> {
+    let mut out = String::new(cast.heap);
     for event in events {
         if as_json {
             json::push_json(&mut out, cast, event)?;
@@ -121,7 +115,7 @@ fn write_picture(
     let Some(file) = &wanted.picture else {
         return Ok(());
     };
-    let svg = drawn(cast, events, wanted.path.as_bytes())?;
+    let svg = drawn(cast, events, wanted.path.as_str())?;
     if let Err(e) = fs::write(rt, file.as_str(), svg.as_slice()) {
         let name = file.as_str();
         eprintln!(rt; "rehearse: {name}: {e}")?;
@@ -131,16 +125,10 @@ fn write_picture(
 }
 
 fn perform(rt: &HostRuntime, script: Script, text: Vec<u8>, wanted: &Wanted) -> anyhow::Result<()> {
-    let events = match play(rt.alloc(), &script) {
-        Ok(events) => events,
-        Err(trouble) => {
-            let words = words_of(trouble);
-            return Err(anyhow!("{words}"));
-        }
-    };
+    let events = play(rt.alloc(), &script)?;
     let cast = Cast::new(rt.alloc(), script, text)?;
     let out = told(&cast, events.as_slice(), wanted.json)?;
-    rt.stdout().write_all(out.as_slice())?;
+    rt.stdout().write_all(out.as_bytes())?;
     write_picture(rt, &cast, events.as_slice(), wanted)
 }
 

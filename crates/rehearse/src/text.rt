@@ -1,344 +1,223 @@
 // What happens, in lines for people. Every line begins with `tick T`, or with `end` for what each node comes out with.
 use crate::cast::Cast;
-use crate::pieces::{Piece, push_pieces};
+use crate::names::Said;
 use register::Phase;
 use sheet::{Payment, Sheet};
-use stage::{Answer, Ending, Event, Happening, Letter};
+use stage::{Ending, Event, Happening, Letter};
 use std::alloc::AllocError;
 
 fn push_payments(
-    out: &mut Vec<u8>,
+    out: &mut String,
     cast: &Cast,
-    kind: &'static [u8],
+    kind: &str,
     payments: &[Payment],
 ) -> Result<(), AllocError> {
     for payment in payments {
-        let pieces = [
-            Piece::Words(kind),
-            Piece::Words(b" key "),
-            Piece::Lock(payment.lock),
-            Piece::Words(b" amount "),
-            Piece::Number(u64::from(payment.amount)),
-            Piece::Words(b" end "),
-            Piece::Number(u64::from(payment.end)),
-        ];
-        push_pieces(out, cast, &pieces)?;
+        let Payment { lock, amount, end } = *payment;
+        let key = cast.lock(&lock);
+        write!(out, " {kind} key {key} amount {amount} end {end}")?;
     }
     Ok(())
 }
 
-// A sheet of a node, with the neighbour that it is of.
-fn push_sheet(
-    out: &mut Vec<u8>,
-    cast: &Cast,
-    node: usize,
-    account: usize,
-    kind: &'static [u8],
-    sheet: &Sheet,
-) -> Result<(), AllocError> {
-    let pieces = [
-        Piece::Party(node),
-        Piece::Words(b" with "),
-        Piece::Party(cast.neighbour(account, node)),
-        Piece::Words(kind),
-        Piece::Number(u64::from(sheet.number)),
-        Piece::Words(b" own "),
-        Piece::Number(u64::from(sheet.own)),
-        Piece::Words(b" theirs "),
-        Piece::Number(u64::from(sheet.theirs)),
-    ];
-    push_pieces(out, cast, &pieces)?;
-    push_payments(out, cast, b" in", sheet.ins())?;
-    push_payments(out, cast, b" out", sheet.outs())
+fn push_sheet(out: &mut String, cast: &Cast, sheet: &Sheet) -> Result<(), AllocError> {
+    let Sheet {
+        number,
+        own,
+        theirs,
+        ..
+    } = *sheet;
+    write!(out, "{number} own {own} theirs {theirs}")?;
+    push_payments(out, cast, "in", sheet.ins())?;
+    push_payments(out, cast, "out", sheet.outs())
 }
 
-fn push_held(
-    out: &mut Vec<u8>,
-    cast: &Cast,
-    node: usize,
-    account: usize,
-    sheet: &Sheet,
-    frozen: bool,
-) -> Result<(), AllocError> {
-    push_sheet(out, cast, node, account, b" held ", sheet)?;
-    if frozen {
-        return out.extend_from_slice(b" frozen");
-    }
-    Ok(())
-}
-
-fn letter_words(letter: Letter) -> (&'static [u8], u32) {
+fn push_letter(out: &mut String, letter: Letter) -> Result<(), AllocError> {
     match letter {
-        Letter::Sheet { number } => (b" signed sheet ", number),
-        Letter::Signature { number } => (b" signature under ", number),
+        Letter::Sheet { number } => write!(out, " signed sheet {number}"),
+        Letter::Signature { number } => write!(out, " signature under {number}"),
     }
 }
 
-// A message of a node.
-fn push_letter(
-    out: &mut Vec<u8>,
-    cast: &Cast,
-    first: usize,
-    verb: &'static [u8],
-    second: usize,
-    letter: Letter,
-) -> Result<(), AllocError> {
-    let (words, number) = letter_words(letter);
-    let pieces = [
-        Piece::Party(first),
-        Piece::Words(verb),
-        Piece::Party(second),
-        Piece::Words(words),
-        Piece::Number(u64::from(number)),
-    ];
-    push_pieces(out, cast, &pieces)
-}
-
-// Something about a sheet in the register.
-fn push_dispute(
-    out: &mut Vec<u8>,
-    cast: &Cast,
-    account: usize,
-    verb: &'static [u8],
-    number: u32,
-    until: u64,
-) -> Result<(), AllocError> {
-    let pieces = [
-        Piece::Words(b"register "),
-        Piece::Account(account),
-        Piece::Words(verb),
-        Piece::Number(u64::from(number)),
-        Piece::Words(b" until "),
-        Piece::Number(until),
-    ];
-    push_pieces(out, cast, &pieces)
-}
-
-fn push_page(
-    out: &mut Vec<u8>,
-    cast: &Cast,
-    account: usize,
-    phase: &Phase,
-) -> Result<(), AllocError> {
+fn push_phase(out: &mut String, phase: &Phase) -> Result<(), AllocError> {
     match *phase {
-        Phase::Quiet => push_pieces(
-            out,
-            cast,
-            &[
-                Piece::Words(b"register "),
-                Piece::Account(account),
-                Piece::Words(b" quiet"),
-            ],
-        ),
+        Phase::Quiet => write!(out, " quiet"),
         Phase::Disputed { sheet, until } => {
-            push_dispute(out, cast, account, b" disputed sheet ", sheet.number, until)
+            let number = sheet.number;
+            write!(out, " disputed sheet {number} until {until}")
         }
         Phase::Ended { sheet, until } => {
-            push_dispute(out, cast, account, b" ended sheet ", sheet.number, until)
+            let number = sheet.number;
+            write!(out, " ended sheet {number} until {until}")
         }
     }
 }
 
 // How an account of a node was ended.
-fn push_ending(out: &mut Vec<u8>, cast: &Cast, ending: Ending) -> Result<(), AllocError> {
+fn push_ending(out: &mut String, ending: Ending) -> Result<(), AllocError> {
     match ending {
-        Ending::ByDispute { paid } => push_pieces(
-            out,
-            cast,
-            &[
-                Piece::Words(b" has "),
-                Piece::Number(paid),
-                Piece::Words(b" by dispute"),
-            ],
-        ),
-        Ending::ByAgreement { paid } => push_pieces(
-            out,
-            cast,
-            &[
-                Piece::Words(b" has "),
-                Piece::Number(paid),
-                Piece::Words(b" by agreement"),
-            ],
-        ),
-        Ending::NotSettled => push_pieces(out, cast, &[Piece::Words(b" not settled")]),
+        Ending::ByDispute { paid } => write!(out, " has {paid} by dispute"),
+        Ending::ByAgreement { paid } => write!(out, " has {paid} by agreement"),
+        Ending::NotSettled => write!(out, " not settled"),
     }
-}
-
-fn push_result(
-    out: &mut Vec<u8>,
-    cast: &Cast,
-    node: usize,
-    account: usize,
-    put_in: u32,
-    ending: Ending,
-) -> Result<(), AllocError> {
-    let pieces = [
-        Piece::Party(node),
-        Piece::Words(b" with "),
-        Piece::Party(cast.neighbour(account, node)),
-        Piece::Words(b" put in "),
-        Piece::Number(u64::from(put_in)),
-    ];
-    push_pieces(out, cast, &pieces)?;
-    push_ending(out, cast, ending)
-}
-
-fn push_total(
-    out: &mut Vec<u8>,
-    cast: &Cast,
-    node: usize,
-    put_in: u64,
-    came_out: u64,
-    settled: bool,
-) -> Result<(), AllocError> {
-    let pieces = [
-        Piece::Party(node),
-        Piece::Words(b" in all put in "),
-        Piece::Number(put_in),
-    ];
-    push_pieces(out, cast, &pieces)?;
-    if settled {
-        let pieces = [Piece::Words(b" has "), Piece::Number(came_out)];
-        return push_pieces(out, cast, &pieces);
-    }
-    out.extend_from_slice(b" not settled")
 }
 
 // What happens in the register.
-fn push_in_register(out: &mut Vec<u8>, cast: &Cast, what: &Happening) -> Result<(), AllocError> {
+fn push_in_register(out: &mut String, cast: &Cast, what: &Happening) -> Result<(), AllocError> {
     match *what {
         Happening::Opened {
             account,
             number,
             until,
-        } => push_dispute(out, cast, account, b" opens with sheet ", number, until),
+        } => {
+            let pair = cast.pair(account);
+            write!(
+                out,
+                "register {pair} opens with sheet {number} until {until}"
+            )
+        }
         Happening::Replaced {
             account,
             number,
             until,
-        } => push_dispute(out, cast, account, b" goes on with sheet ", number, until),
-        Happening::TurnedAway { account, number } => push_pieces(
-            out,
-            cast,
-            &[
-                Piece::Words(b"register "),
-                Piece::Account(account),
-                Piece::Words(b" turns away sheet "),
-                Piece::Number(u64::from(number)),
-            ],
-        ),
-        Happening::Ended { account, number } => push_pieces(
-            out,
-            cast,
-            &[
-                Piece::Words(b"register "),
-                Piece::Account(account),
-                Piece::Words(b" ends with sheet "),
-                Piece::Number(u64::from(number)),
-            ],
-        ),
-        Happening::KeyCame { account, key } => push_pieces(
-            out,
-            cast,
-            &[
-                Piece::Words(b"register "),
-                Piece::Account(account),
-                Piece::Words(b" has key "),
-                Piece::Key(key),
-            ],
-        ),
-        Happening::Page { account, phase } => push_page(out, cast, account, &phase),
-        Happening::PageKey { account, key, tick } => push_pieces(
-            out,
-            cast,
-            &[
-                Piece::Words(b"register "),
-                Piece::Account(account),
-                Piece::Words(b" key "),
-                Piece::Key(key),
-                Piece::Words(b" since tick "),
-                Piece::Number(u64::from(tick)),
-            ],
-        ),
+        } => {
+            let pair = cast.pair(account);
+            write!(
+                out,
+                "register {pair} goes on with sheet {number} until {until}"
+            )
+        }
+        Happening::TurnedAway { account, number } => {
+            let pair = cast.pair(account);
+            write!(out, "register {pair} turns away sheet {number}")
+        }
+        Happening::Ended { account, number } => {
+            let pair = cast.pair(account);
+            write!(out, "register {pair} ends with sheet {number}")
+        }
+        Happening::KeyCame { account, key } => {
+            let pair = cast.pair(account);
+            let key = cast.key(&key);
+            write!(out, "register {pair} has key {key}")
+        }
+        Happening::Page { account, phase } => {
+            let pair = cast.pair(account);
+            write!(out, "register {pair}")?;
+            push_phase(out, &phase)
+        }
+        Happening::PageKey { account, key, tick } => {
+            let pair = cast.pair(account);
+            let key = cast.key(&key);
+            write!(out, "register {pair} key {key} since tick {tick}")
+        }
         _ => Ok(()),
     }
 }
 
 // What a node does.
-fn push_of_node(out: &mut Vec<u8>, cast: &Cast, what: &Happening) -> Result<(), AllocError> {
+fn push_of_node(out: &mut String, cast: &Cast, what: &Happening) -> Result<(), AllocError> {
     match *what {
         Happening::SheetShown {
             by,
             account,
             number,
-        } => push_pieces(
-            out,
-            cast,
-            &[
-                Piece::Party(by),
-                Piece::Words(b" shows sheet "),
-                Piece::Number(u64::from(number)),
-                Piece::Words(b" of "),
-                Piece::Account(account),
-            ],
-        ),
-        Happening::KeyShown { by, account, key } => push_pieces(
-            out,
-            cast,
-            &[
-                Piece::Party(by),
-                Piece::Words(b" shows key "),
-                Piece::Key(key),
-                Piece::Words(b" for "),
-                Piece::Account(account),
-            ],
-        ),
-        Happening::Learned { node, key } => push_pieces(
-            out,
-            cast,
-            &[
-                Piece::Party(node),
-                Piece::Words(b" learns key "),
-                Piece::Key(key),
-            ],
-        ),
-        Happening::Missed { node, last } => push_pieces(
-            out,
-            cast,
-            &[
-                Piece::Party(node),
-                Piece::Words(b" has not looked since tick "),
-                Piece::Number(u64::from(last)),
-                Piece::Words(b", too long ago: the promise does not cover this"),
-            ],
-        ),
-        Happening::Stopped { node } => push_pieces(
-            out,
-            cast,
-            &[Piece::Party(node), Piece::Words(b" is stopped")],
-        ),
-        Happening::Started { node } => push_pieces(
-            out,
-            cast,
-            &[Piece::Party(node), Piece::Words(b" is started")],
-        ),
+        } => {
+            let node = cast.party(by);
+            let pair = cast.pair(account);
+            write!(out, "{node} shows sheet {number} of {pair}")
+        }
+        Happening::KeyShown { by, account, key } => {
+            let node = cast.party(by);
+            let pair = cast.pair(account);
+            let key = cast.key(&key);
+            write!(out, "{node} shows key {key} for {pair}")
+        }
+        Happening::Learned { node, key } => {
+            let node = cast.party(node);
+            let key = cast.key(&key);
+            write!(out, "{node} learns key {key}")
+        }
+        Happening::Missed { node, last } => {
+            let node = cast.party(node);
+            write!(
+                out,
+                "{node} has not looked since tick {last}, too long ago: the promise does not cover this"
+            )
+        }
+        Happening::Stopped { node } => {
+            let node = cast.party(node);
+            write!(out, "{node} is stopped")
+        }
+        Happening::Started { node } => {
+            let node = cast.party(node);
+            write!(out, "{node} is started")
+        }
         _ => push_in_register(out, cast, what),
     }
 }
 
-fn push_answered(out: &mut Vec<u8>, cast: &Cast, answer: Answer) -> Result<(), AllocError> {
-    push_pieces(out, cast, &[Piece::Words(b": "), Piece::Answer(answer)])
+// What is there at `show`, and what each node comes out with.
+fn push_standing(out: &mut String, cast: &Cast, what: &Happening) -> Result<(), AllocError> {
+    match *what {
+        Happening::Held {
+            node,
+            account,
+            sheet,
+            frozen,
+        } => {
+            let side = cast.side(node, account);
+            write!(out, "{side} held ")?;
+            push_sheet(out, cast, &sheet)?;
+            out.push_str(if frozen { " frozen" } else { "" })
+        }
+        Happening::Next {
+            node,
+            account,
+            sheet,
+        } => {
+            let side = cast.side(node, account);
+            write!(out, "{side} next ")?;
+            push_sheet(out, cast, &sheet)
+        }
+        Happening::Result {
+            node,
+            account,
+            put_in,
+            ending,
+        } => {
+            let side = cast.side(node, account);
+            write!(out, "{side} put in {put_in}")?;
+            push_ending(out, ending)
+        }
+        Happening::Total {
+            node,
+            put_in,
+            came_out,
+        } => {
+            let node = cast.party(node);
+            write!(out, "{node} in all put in {put_in}")?;
+            match came_out {
+                Some(came_out) => write!(out, " has {came_out}"),
+                None => write!(out, " not settled"),
+            }
+        }
+        _ => push_of_node(out, cast, what),
+    }
 }
 
 // What happens, without its tick.
-fn push_what(out: &mut Vec<u8>, cast: &Cast, event: &Event) -> Result<(), AllocError> {
+fn push_what(out: &mut String, cast: &Cast, event: &Event) -> Result<(), AllocError> {
     match event.what {
         Happening::Played { answer, .. } => {
             cast.push_line(out, event.line)?;
-            push_answered(out, cast, answer)
+            let answer = Said(answer);
+            write!(out, ": {answer}")
         }
         Happening::Sent { from, to, letter } => {
-            push_letter(out, cast, from, b" sends ", to, letter)
+            let from = cast.party(from);
+            let to = cast.party(to);
+            write!(out, "{from} sends {to}")?;
+            push_letter(out, letter)
         }
         Happening::Came {
             from,
@@ -346,59 +225,31 @@ fn push_what(out: &mut Vec<u8>, cast: &Cast, event: &Event) -> Result<(), AllocE
             letter,
             answer,
         } => {
-            push_letter(out, cast, to, b" has from ", from, letter)?;
-            push_answered(out, cast, answer)
+            let from = cast.party(from);
+            let to = cast.party(to);
+            write!(out, "{to} has from {from}")?;
+            push_letter(out, letter)?;
+            let answer = Said(answer);
+            write!(out, ": {answer}")
         }
         Happening::Looked { node, answer } => {
-            push_pieces(out, cast, &[Piece::Party(node), Piece::Words(b" looks")])?;
-            push_answered(out, cast, answer)
+            let node = cast.party(node);
+            let answer = Said(answer);
+            write!(out, "{node} looks: {answer}")
         }
-        Happening::Held {
-            node,
-            account,
-            sheet,
-            frozen,
-        } => push_held(out, cast, node, account, &sheet, frozen),
-        Happening::Next {
-            node,
-            account,
-            sheet,
-        } => push_sheet(out, cast, node, account, b" next ", &sheet),
-        Happening::Result {
-            node,
-            account,
-            put_in,
-            ending,
-        } => push_result(out, cast, node, account, put_in, ending),
-        Happening::Total {
-            node,
-            put_in,
-            came_out,
-            settled,
-        } => push_total(out, cast, node, put_in, came_out, settled),
-        _ => push_of_node(out, cast, &event.what),
-    }
-}
-
-fn is_at_the_end(what: &Happening) -> bool {
-    match *what {
-        Happening::Result { .. } | Happening::Total { .. } => true,
-        _ => false,
+        _ => push_standing(out, cast, &event.what),
     }
 }
 
 // The line of an event.
-pub(crate) fn push_text(out: &mut Vec<u8>, cast: &Cast, event: &Event) -> Result<(), AllocError> {
-    if is_at_the_end(&event.what) {
-        out.extend_from_slice(b"end  ")?;
-    } else {
-        let pieces = [
-            Piece::Words(b"tick "),
-            Piece::Number(u64::from(event.tick)),
-            Piece::Words(b"  "),
-        ];
-        push_pieces(out, cast, &pieces)?;
+pub(crate) fn push_text(out: &mut String, cast: &Cast, event: &Event) -> Result<(), AllocError> {
+    match event.what {
+        Happening::Result { .. } | Happening::Total { .. } => out.push_str("end  ")?,
+        _ => {
+            let tick = event.tick;
+            write!(out, "tick {tick}  ")?;
+        }
     }
     push_what(out, cast, event)?;
-    out.extend_from_slice(b"\n")
+    out.push_str("\n")
 }

@@ -1,205 +1,138 @@
-// The command of a form with its parties and numbers.
-use crate::forms::Form;
-use crate::types::{Command, Promised, Token};
+// The command of a line's verb with the line's parties and numbers.
+use crate::forms::Verb;
+use crate::tokens::Token;
+use crate::types::{Command, Promised};
+use std::array;
 
-// The parties and the numbers of a line, each in the line's order.
+// The parties and the numbers of a line, each in the line's order; zeros where there are fewer.
 #[derive(Clone, Copy)]
 pub(crate) struct Parts {
     pub(crate) parties: [usize; 3],
     pub(crate) numbers: [u32; 4],
-    pub(crate) first_is_node: bool,
+    first_is_node: bool,
 }
 
 fn parties_of(tokens: &[Token]) -> [usize; 3] {
-    let mut parties = [0; 3];
-    let mut count = 0;
-    for token in tokens {
-        if let Token::Party { index, .. } = *token {
-            if count < 3 {
-                parties[count] = index;
-                count += 1;
-            }
-        }
-    }
-    parties
+    let mut parties = tokens.iter().filter_map(|token| match *token {
+        Token::Party { index, .. } => Some(index),
+        _ => None,
+    });
+    array::from_fn(|_| parties.next().unwrap_or(0))
 }
 
 fn numbers_of(tokens: &[Token]) -> [u32; 4] {
-    let mut numbers = [0; 4];
-    let mut count = 0;
-    for token in tokens {
-        if let Token::Number(n) = *token {
-            if count < 4 {
-                numbers[count] = n;
-                count += 1;
-            }
-        }
-    }
-    numbers
+    let mut numbers = tokens.iter().filter_map(|token| match *token {
+        Token::Number(n) => Some(n),
+        _ => None,
+    });
+    array::from_fn(|_| numbers.next().unwrap_or(0))
 }
 
 fn first_is_node(tokens: &[Token]) -> bool {
-    for token in tokens {
-        if let Token::Party { is_node, .. } = *token {
-            return is_node;
+    tokens
+        .iter()
+        .find_map(|token| match *token {
+            Token::Party { is_node, .. } => Some(is_node),
+            _ => None,
+        })
+        .unwrap_or(false)
+}
+
+impl Parts {
+    pub(crate) fn of(tokens: &[Token]) -> Parts {
+        Parts {
+            parties: parties_of(tokens),
+            numbers: numbers_of(tokens),
+            first_is_node: first_is_node(tokens),
         }
     }
-    false
 }
 
-pub(crate) fn parts_of(tokens: &[Token]) -> Parts {
-    Parts {
-        parties: parties_of(tokens),
-        numbers: numbers_of(tokens),
-        first_is_node: first_is_node(tokens),
+impl Verb {
+    // The command that a line says.
+    pub(crate) fn command(self, parts: &Parts) -> Command {
+        let [first, second, third] = parts.parties;
+        let [number, amount, end, _] = parts.numbers;
+        let key = number;
+        let promised = Promised { key, amount, end };
+        match self {
+            Verb::Offers { signed } => Command::Offers {
+                from: first,
+                to: second,
+                promised,
+                signed,
+            },
+            Verb::Returns { signed } => Command::Returns {
+                from: first,
+                to: second,
+                key,
+                signed,
+            },
+            Verb::Pays if parts.first_is_node => Command::Pays {
+                node: first,
+                to: second,
+                key,
+            },
+            Verb::Pays => Command::Settles {
+                from: first,
+                to: second,
+                key,
+                signed: true,
+            },
+            Verb::PaysUnsigned => Command::Settles {
+                from: first,
+                to: second,
+                key,
+                signed: false,
+            },
+            Verb::Signs => Command::Signs {
+                from: first,
+                to: second,
+            },
+            Verb::Passes => Command::Passes {
+                node: first,
+                from: second,
+                to: third,
+                promised,
+            },
+            Verb::Gets => Command::Gets {
+                node: first,
+                from: second,
+                key,
+            },
+            Verb::GivesUp => Command::GivesUp {
+                node: first,
+                from: second,
+                key,
+            },
+            Verb::KeyTo => Command::KeyTo { key, to: first },
+            Verb::ShowsSheet => Command::ShowsSheet {
+                by: first,
+                of: second,
+                number,
+            },
+            Verb::ShowsKey => Command::ShowsKey {
+                by: first,
+                key,
+                first: second,
+                second: third,
+            },
+            Verb::Looks => Command::Looks { node: first },
+            Verb::LooksByHand => Command::LooksByHand { node: first },
+            Verb::LooksByItself => Command::LooksByItself { node: first },
+            Verb::MissesLooks => Command::MissesLooks {
+                node: first,
+                until: number,
+            },
+            Verb::Arrivals { at_once } => Command::Arrivals { at_once },
+            Verb::Stops => Command::Stops { node: first },
+            Verb::StopsAfter { lost } => Command::StopsAfter {
+                node: first,
+                acts: number,
+                lost,
+            },
+            Verb::Starts => Command::Starts { node: first },
+            Verb::Show => Command::Show,
+        }
     }
-}
-
-fn promised(parts: &Parts) -> Promised {
-    let [key, amount, end, _] = parts.numbers;
-    Promised { key, amount, end }
-}
-
-// What another proposes.
-fn proposal_of(form: Form, parts: &Parts) -> Option<Command> {
-    let [from, to, _] = parts.parties;
-    let [key, _, _, _] = parts.numbers;
-    let promised = promised(parts);
-    match form {
-        Form::Offers => Some(Command::Offers {
-            from,
-            to,
-            promised,
-            signed: true,
-        }),
-        Form::OffersUnsigned => Some(Command::Offers {
-            from,
-            to,
-            promised,
-            signed: false,
-        }),
-        Form::Returns => Some(Command::Returns {
-            from,
-            to,
-            key,
-            signed: true,
-        }),
-        Form::ReturnsUnsigned => Some(Command::Returns {
-            from,
-            to,
-            key,
-            signed: false,
-        }),
-        Form::PaysUnsigned => Some(Command::Settles {
-            from,
-            to,
-            key,
-            signed: false,
-        }),
-        Form::Signs => Some(Command::Signs { from, to }),
-        _ => None,
-    }
-}
-
-// `pays` is a call of a node's owner, or a proposal of another.
-fn pays(parts: &Parts) -> Command {
-    let [from, to, _] = parts.parties;
-    let [key, _, _, _] = parts.numbers;
-    if parts.first_is_node {
-        return Command::Pays {
-            node: from,
-            to,
-            key,
-        };
-    }
-    Command::Settles {
-        from,
-        to,
-        key,
-        signed: true,
-    }
-}
-
-// What the owner of a node asks for.
-fn call_of(form: Form, parts: &Parts) -> Option<Command> {
-    let [node, from, to] = parts.parties;
-    let [key, _, _, _] = parts.numbers;
-    match form {
-        Form::Pays => Some(pays(parts)),
-        Form::Passes => Some(Command::Passes {
-            node,
-            from,
-            to,
-            promised: promised(parts),
-        }),
-        Form::Gets => Some(Command::Gets { node, from, key }),
-        Form::GivesUp => Some(Command::GivesUp { node, from, key }),
-        _ => None,
-    }
-}
-
-// What comes to the register, and keys.
-fn showing_of(form: Form, parts: &Parts) -> Option<Command> {
-    let [by, first, second] = parts.parties;
-    let [key, _, _, _] = parts.numbers;
-    match form {
-        Form::KeyTo => Some(Command::KeyTo { key, to: by }),
-        Form::ShowsSheet => Some(Command::ShowsSheet {
-            by,
-            of: first,
-            number: key,
-        }),
-        Form::ShowsKey => Some(Command::ShowsKey {
-            by,
-            key,
-            first,
-            second,
-        }),
-        Form::ArrivalsNow => Some(Command::Arrivals { at_once: true }),
-        Form::ArrivalsLate => Some(Command::Arrivals { at_once: false }),
-        Form::Show => Some(Command::Show),
-        _ => None,
-    }
-}
-
-// Looks, stops and starts.
-fn turn_of(form: Form, parts: &Parts) -> Option<Command> {
-    let [node, _, _] = parts.parties;
-    let [number, _, _, _] = parts.numbers;
-    match form {
-        Form::Looks => Some(Command::Looks { node }),
-        Form::LooksByHand => Some(Command::LooksByHand { node }),
-        Form::LooksByItself => Some(Command::LooksByItself { node }),
-        Form::MissesLooks => Some(Command::MissesLooks {
-            node,
-            until: number,
-        }),
-        Form::Stops => Some(Command::Stops { node }),
-        Form::StopsAfterAct | Form::StopsAfter => Some(Command::StopsAfter {
-            node,
-            acts: number,
-            lost: false,
-        }),
-        Form::StopsLosingAct | Form::StopsLosing => Some(Command::StopsAfter {
-            node,
-            acts: number,
-            lost: true,
-        }),
-        Form::Starts => Some(Command::Starts { node }),
-        _ => None,
-    }
-}
-
-// The command of a line, but for time, raw messages and what is said before the play.
-pub(crate) fn command_of(form: Form, parts: &Parts) -> Option<Command> {
-    if let Some(command) = proposal_of(form, parts) {
-        return Some(command);
-    }
-    if let Some(command) = call_of(form, parts) {
-        return Some(command);
-    }
-    if let Some(command) = showing_of(form, parts) {
-        return Some(command);
-    }
-    turn_of(form, parts)
 }

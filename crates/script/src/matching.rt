@@ -1,6 +1,7 @@
 // Which form a line has, or which of its words fits none.
-use crate::forms::{FORMS, Form};
-use crate::types::{Slot, Token, Wrong};
+use crate::forms::{FORMS, Form, Says, Slot};
+use crate::tokens::Token;
+use crate::types::{Fault, ReadFault, Wrong};
 
 // What is wrong, and at which word, counted from 0.
 #[derive(Clone, Copy)]
@@ -9,130 +10,101 @@ pub(crate) struct Misfit {
     pub(crate) wrong: Wrong,
 }
 
-// The token at a place of a line; past its end there is nothing.
-fn token_at(tokens: &[Token], at: usize) -> Token {
-    if at < tokens.len() {
-        return tokens[at];
-    }
-    Token::Nothing
-}
-
-fn slot_at(slots: &[Slot], at: usize) -> Option<Slot> {
-    if at < slots.len() {
-        return Some(slots[at]);
-    }
-    None
-}
-
-// May the token stand at the slot. Whether a party is a node is asked later.
-fn fits(slot: Slot, token: Token) -> bool {
-    match (slot, token) {
-        (Slot::Is(wanted), Token::Word(word)) => wanted == word,
-        (Slot::Number, Token::Number(_)) => true,
-        (Slot::Party, Token::Party { .. }) => true,
-        (Slot::Node, Token::Party { .. }) => true,
-        (Slot::Other, Token::Party { .. }) => true,
-        (Slot::Name, Token::Unknown) => true,
-        (Slot::Digits, Token::Unknown) => true,
-        (Slot::Digits, Token::Number(_)) => true,
-        (Slot::Digits, Token::TooLarge) => true,
-        _ => false,
+impl Misfit {
+    pub(crate) fn in_line(self, line: u32) -> ReadFault {
+        let Misfit { word, wrong } = self;
+        ReadFault::Wrong(Fault { line, word, wrong })
     }
 }
 
-// How many words from the first on may stand where they do.
-fn depth(slots: &[Slot], tokens: &[Token]) -> usize {
-    for (i, slot) in slots.iter().enumerate() {
-        if !fits(*slot, token_at(tokens, i)) {
-            return i;
+impl Slot {
+    // May the token stand here. Whether a party is a node is asked later.
+    fn fits(self, token: Token) -> bool {
+        match (self, token) {
+            (Slot::Is(wanted), Token::Word(word)) => wanted == word,
+            (Slot::Number, Token::Number(_)) => true,
+            (Slot::Party | Slot::Node | Slot::Other, Token::Party { .. }) => true,
+            (Slot::Name | Slot::Digits, Token::Unknown) => true,
+            (Slot::Digits, Token::Number(_) | Token::TooLarge) => true,
+            _ => false,
         }
     }
-    slots.len()
-}
 
-fn is_whole(slots: &[Slot], tokens: &[Token]) -> bool {
-    tokens.len() == slots.len() && depth(slots, tokens) == slots.len()
-}
-
-// Why a token may not stand at a slot, where it may not.
-fn wrong_at(slot: Slot, token: Token) -> Wrong {
-    match (slot, token) {
-        (_, Token::Nothing) => Wrong::EndsEarly,
-        (Slot::Number, Token::TooLarge) => Wrong::TooLarge,
-        (Slot::Number, _) => Wrong::NotANumber,
-        (Slot::Party, Token::Unknown) => Wrong::NoParty,
-        (Slot::Node, Token::Unknown) => Wrong::NoParty,
-        (Slot::Other, Token::Unknown) => Wrong::NoParty,
-        (Slot::Name, Token::Party { .. }) => Wrong::NameTaken,
-        (Slot::Name, _) => Wrong::NotAName,
-        _ => Wrong::CannotStand,
-    }
-}
-
-fn misfit_of(slots: &[Slot], tokens: &[Token]) -> Misfit {
-    let word = depth(slots, tokens);
-    let wrong = match slot_at(slots, word) {
-        Some(slot) => wrong_at(slot, token_at(tokens, word)),
-        None => Wrong::CannotStand,
-    };
-    Misfit { word, wrong }
-}
-
-// The form that the words have.
-fn whole_form(tokens: &[Token]) -> Option<Form> {
-    for form in FORMS {
-        if is_whole(form.slots(), tokens) {
-            return Some(form);
+    // Why the token, or the end of the line, may not stand here, where it may not.
+    fn wrong_with(self, token: Option<Token>) -> Wrong {
+        match (self, token) {
+            (_, None) => Wrong::EndsEarly,
+            (Slot::Number, Some(Token::TooLarge)) => Wrong::TooLarge,
+            (Slot::Number, _) => Wrong::NotANumber,
+            (Slot::Party | Slot::Node | Slot::Other, Some(Token::Unknown)) => Wrong::NoParty,
+            (Slot::Name, Some(Token::Party { .. })) => Wrong::NameTaken,
+            (Slot::Name, _) => Wrong::NotAName,
+            _ => Wrong::CannotStand,
         }
     }
-    None
+
+    // A party has to be of the kind that stands here.
+    fn check_kind(self, token: Token) -> Result<(), Wrong> {
+        match (self, token) {
+            (Slot::Node, Token::Party { is_node: false, .. }) => Err(Wrong::NotANode),
+            (Slot::Other, Token::Party { is_node: true, .. }) => Err(Wrong::IsANode),
+            _ => Ok(()),
+        }
+    }
+}
+
+impl Form {
+    // How many words from the first on may stand where they do.
+    fn depth(self, tokens: &[Token]) -> usize {
+        self.slots
+            .iter()
+            .zip(tokens)
+            .take_while(|(slot, token)| slot.fits(**token))
+            .count()
+    }
+
+    fn is_whole(self, tokens: &[Token]) -> bool {
+        tokens.len() == self.slots.len() && self.depth(tokens) == self.slots.len()
+    }
+
+    // The first word that may not stand where it does.
+    fn misfit(self, tokens: &[Token]) -> Misfit {
+        let word = self.depth(tokens);
+        let wrong = match self.slots.get(word) {
+            Some(slot) => slot.wrong_with(tokens.get(word).copied()),
+            None => Wrong::CannotStand,
+        };
+        Misfit { word, wrong }
+    }
+
+    // Each party has to be of the kind that its slot wants.
+    fn check_kinds(self, tokens: &[Token]) -> Result<(), Misfit> {
+        for (word, (slot, token)) in self.slots.iter().zip(tokens).enumerate() {
+            slot.check_kind(*token)
+                .map_err(|wrong| Misfit { word, wrong })?;
+        }
+        Ok(())
+    }
 }
 
 // The misfit that comes last in the line, over all forms; the first of those.
 fn furthest(tokens: &[Token]) -> Misfit {
-    let mut best = Misfit {
+    let start = Misfit {
         word: 0,
         wrong: Wrong::CannotStand,
     };
-    for form in FORMS {
-        let next = misfit_of(form.slots(), tokens);
-        if next.word > best.word {
-            best = next;
-        }
-    }
-    best
+    FORMS.iter().fold(start, |best, form| {
+        let next = form.misfit(tokens);
+        if next.word > best.word { next } else { best }
+    })
 }
 
-// Is a party at a slot of the kind that it has to be.
-fn kind_wrong(slot: Slot, token: Token) -> Option<Wrong> {
-    match (slot, token) {
-        (Slot::Node, Token::Party { is_node, .. }) => {
-            if is_node { None } else { Some(Wrong::NotANode) }
-        }
-        (Slot::Other, Token::Party { is_node, .. }) => {
-            if is_node { Some(Wrong::IsANode) } else { None }
-        }
-        _ => None,
-    }
-}
-
-// The first party of the wrong kind.
-fn kinds_wrong(slots: &[Slot], tokens: &[Token]) -> Option<Misfit> {
-    for (word, slot) in slots.iter().enumerate() {
-        if let Some(wrong) = kind_wrong(*slot, token_at(tokens, word)) {
-            return Some(Misfit { word, wrong });
-        }
-    }
-    None
-}
-
-// The form of a line, or what is wrong with it.
-pub(crate) fn form_of(tokens: &[Token]) -> Result<Form, Misfit> {
-    let Some(form) = whole_form(tokens) else {
-        return Err(furthest(tokens));
-    };
-    match kinds_wrong(form.slots(), tokens) {
-        Some(misfit) => Err(misfit),
-        None => Ok(form),
-    }
+// What a line says by its form, or what is wrong with it.
+pub(crate) fn said_by(tokens: &[Token]) -> Result<Says, Misfit> {
+    let form = FORMS
+        .iter()
+        .find(|form| form.is_whole(tokens))
+        .ok_or_else(|| furthest(tokens))?;
+    form.check_kinds(tokens)?;
+    Ok(form.says)
 }

@@ -4,69 +4,41 @@ use crate::types::{Command, Opening, Wrong};
 
 // Do the two parties have an account.
 pub(crate) fn have_account(openings: &[Opening], a: usize, b: usize) -> bool {
-    for opening in openings {
+    openings.iter().any(|opening| {
         let as_written = opening.first == a && opening.second == b;
         let turned = opening.first == b && opening.second == a;
-        if as_written || turned {
-            return true;
-        }
+        as_written || turned
+    })
+}
+
+// Two parties have to have an account; `word` is what is named where they have none.
+fn check_account(openings: &[Opening], a: usize, b: usize, word: usize) -> Result<(), Misfit> {
+    if have_account(openings, a, b) {
+        return Ok(());
     }
-    false
-}
-
-// The accounts that a command speaks of, each by its two parties and by the word that is named where there is none.
-#[derive(Clone, Copy)]
-struct Pair {
-    a: usize,
-    b: usize,
-    word: usize,
-}
-
-fn pair_of(command: &Command) -> Option<Pair> {
-    let (a, b, word) = match *command {
-        Command::Offers { from, to, .. } => (from, to, 2),
-        Command::Returns { from, to, .. } => (from, to, 2),
-        Command::Settles { from, to, .. } => (from, to, 2),
-        Command::Signs { from, to } => (from, to, 2),
-        Command::Passes { node, from, .. } => (node, from, 5),
-        Command::Pays { node, to, .. } => (node, to, 2),
-        Command::Gets { node, from, .. } => (node, from, 2),
-        Command::GivesUp { node, from, .. } => (node, from, 3),
-        Command::ShowsSheet { by, of, .. } => (by, of, 2),
-        Command::ShowsKey { first, second, .. } => (first, second, 6),
-        Command::Sends { from, to, .. } => (from, to, 2),
-        _ => return None,
-    };
-    Some(Pair { a, b, word })
-}
-
-// The second account of a passing on.
-fn second_of(command: &Command) -> Option<Pair> {
-    match *command {
-        Command::Passes { node, to, .. } => Some(Pair {
-            a: node,
-            b: to,
-            word: 7,
-        }),
-        _ => None,
-    }
-}
-
-fn lacks(openings: &[Opening], pair: Option<Pair>) -> Option<Misfit> {
-    let pair = pair?;
-    if have_account(openings, pair.a, pair.b) {
-        return None;
-    }
-    Some(Misfit {
-        word: pair.word,
+    Err(Misfit {
+        word,
         wrong: Wrong::NoAccount,
     })
 }
 
-// The word at which a command speaks of an account that isn't there.
-pub(crate) fn without_account(openings: &[Opening], command: &Command) -> Option<Misfit> {
-    match lacks(openings, pair_of(command)) {
-        Some(misfit) => Some(misfit),
-        None => lacks(openings, second_of(command)),
+// The accounts that a command speaks of have to be there.
+pub(crate) fn check_accounts(openings: &[Opening], command: &Command) -> Result<(), Misfit> {
+    match *command {
+        Command::Offers { from, to, .. }
+        | Command::Returns { from, to, .. }
+        | Command::Settles { from, to, .. }
+        | Command::Signs { from, to }
+        | Command::Sends { from, to } => check_account(openings, from, to, 2),
+        Command::Passes { node, from, to, .. } => {
+            check_account(openings, node, from, 5)?;
+            check_account(openings, node, to, 7)
+        }
+        Command::Pays { node, to, .. } => check_account(openings, node, to, 2),
+        Command::Gets { node, from, .. } => check_account(openings, node, from, 2),
+        Command::GivesUp { node, from, .. } => check_account(openings, node, from, 3),
+        Command::ShowsSheet { by, of, .. } => check_account(openings, by, of, 2),
+        Command::ShowsKey { first, second, .. } => check_account(openings, first, second, 6),
+        _ => Ok(()),
     }
 }

@@ -1,9 +1,8 @@
 // What is said before the play: the terms, the parties, their accounts.
 use crate::matching::Misfit;
 use crate::pairs::have_account;
-use crate::types::{Opening, Party, ReadFault, Wrong};
+use crate::types::{Opening, Party, Wrong};
 use schedule::TooSmall;
-use std::alloc::Global;
 
 const MOST_NODES: usize = 4;
 
@@ -12,91 +11,65 @@ const MOST_PARTIES: usize = 16;
 const MOST_ACCOUNTS: usize = 16;
 
 // The word of the terms that is too small.
-pub(crate) fn small_at(small: TooSmall) -> Misfit {
-    match small {
-        TooSmall::Look => Misfit {
-            word: 8,
-            wrong: Wrong::LookBelowOne,
-        },
-        TooSmall::Window => Misfit {
-            word: 4,
-            wrong: Wrong::WindowTooShort,
-        },
-        TooSmall::Gap => Misfit {
-            word: 2,
-            wrong: Wrong::GapTooShort,
-        },
+impl From<TooSmall> for Misfit {
+    fn from(small: TooSmall) -> Misfit {
+        let (word, wrong) = match small {
+            TooSmall::Look => (8, Wrong::LookBelowOne),
+            TooSmall::Window => (4, Wrong::WindowTooShort),
+            TooSmall::Gap => (2, Wrong::GapTooShort),
+        };
+        Misfit { word, wrong }
     }
-}
-
-fn nodes_among(parties: &[Party]) -> usize {
-    let mut count: usize = 0;
-    for party in parties {
-        if party.is_node {
-            count = count.saturating_add(1);
-        }
-    }
-    count
 }
 
 // A letter, and then letters, digits, - and _.
-fn is_name(name: &[u8]) -> bool {
-    for b in name {
-        if !b.is_ascii_alphanumeric() && *b != b'-' && *b != b'_' {
-            return false;
-        }
-    }
-    !name.is_empty() && name[0].is_ascii_alphabetic()
+fn is_name(name: &str) -> bool {
+    let bytes = name.as_bytes();
+    bytes.first().is_some_and(|b| b.is_ascii_alphabetic())
+        && bytes
+            .iter()
+            .all(|b| b.is_ascii_alphanumeric() || *b == b'-' || *b == b'_')
 }
 
-// May a party with this name be added.
-pub(crate) fn party_wrong(parties: &[Party], name: &[u8], is_node: bool) -> Option<Misfit> {
+// A party with this name has to be one that may be added.
+pub(crate) fn check_party(parties: &[Party], name: &str, is_node: bool) -> Result<(), Misfit> {
+    let nodes = parties.iter().filter(|party| party.is_node).count();
     let wrong = if !is_name(name) {
         Wrong::NotAName
-    } else if is_node && nodes_among(parties) >= MOST_NODES {
+    } else if is_node && nodes >= MOST_NODES {
         Wrong::TooManyNodes
     } else if parties.len() >= MOST_PARTIES {
         Wrong::TooManyParties
     } else {
-        return None;
+        return Ok(());
     };
-    Some(Misfit { word: 1, wrong })
-}
-
-pub(crate) fn add_party(
-    heap: Global,
-    parties: &mut Vec<Party>,
-    name: &[u8],
-    is_node: bool,
-) -> Result<(), ReadFault> {
-    let name = Vec::from_slice(heap, name)?;
-    parties.push(Party { name, is_node })?;
-    Ok(())
+    Err(Misfit { word: 1, wrong })
 }
 
 fn is_node(parties: &[Party], party: usize) -> bool {
-    party < parties.len() && parties[party].is_node
+    parties.get(party).is_some_and(|found| found.is_node)
 }
 
 // How many accounts a party has.
 fn accounts_of(openings: &[Opening], party: usize) -> usize {
-    let mut count: usize = 0;
-    for opening in openings {
-        if opening.first == party || opening.second == party {
-            count = count.saturating_add(1);
-        }
-    }
-    count
+    openings
+        .iter()
+        .filter(|opening| opening.first == party || opening.second == party)
+        .count()
 }
 
-// May an account be added.
-pub(crate) fn opening_wrong(
+// An account has to be one that may be added.
+pub(crate) fn check_opening(
     parties: &[Party],
     openings: &[Opening],
     opening: Opening,
-) -> Option<Misfit> {
-    let first = opening.first;
-    let second = opening.second;
+) -> Result<(), Misfit> {
+    let Opening {
+        first,
+        second,
+        first_put_in,
+        second_put_in,
+    } = opening;
     let (word, wrong) = if first == second {
         (2, Wrong::AccountWithItself)
     } else if !is_node(parties, first) && !is_node(parties, second) {
@@ -107,14 +80,10 @@ pub(crate) fn opening_wrong(
         (1, Wrong::TooManyAccounts)
     } else if accounts_of(openings, second) >= MOST_ACCOUNTS {
         (2, Wrong::TooManyAccounts)
-    } else if opening
-        .first_put_in
-        .checked_add(opening.second_put_in)
-        .is_none()
-    {
+    } else if first_put_in.checked_add(second_put_in).is_none() {
         (4, Wrong::DepositsTooLarge)
     } else {
-        return None;
+        return Ok(());
     };
-    Some(Misfit { word, wrong })
+    Err(Misfit { word, wrong })
 }

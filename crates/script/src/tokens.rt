@@ -1,31 +1,43 @@
 // What the words of a line can be.
-use crate::types::{Party, Token};
-use crate::words::keyword_of;
-use lines::{NumberFault, next_word, number};
+use crate::types::Party;
+use crate::words::Keyword;
+use lines::{NumberFault, number};
 use std::alloc::{AllocError, Global};
 
-// The party with a name.
-fn named(parties: &[Party], name: &[u8]) -> Token {
-    for (index, party) in parties.iter().enumerate() {
-        if party.name.as_slice() == name {
-            return Token::Party {
-                index,
-                is_node: party.is_node,
-            };
-        }
-    }
-    Token::Unknown
+// A word of a line, by what it can be.
+#[derive(Clone, Copy)]
+pub(crate) enum Token {
+    Word(Keyword),
+    Number(u32),
+    TooLarge,
+    Party { index: usize, is_node: bool },
+    Unknown,
 }
 
-// What a word is: a word of the language, a number, a party, or none of these.
-fn token_of(parties: &[Party], word: &[u8]) -> Token {
-    if let Some(keyword) = keyword_of(word) {
-        return Token::Word(keyword);
+impl Token {
+    // What a word is: a word of the language, a number, a party, or none of these.
+    fn read(parties: &[Party], word: &[u8]) -> Token {
+        if let Some(keyword) = Keyword::read(word) {
+            return Token::Word(keyword);
+        }
+        match number(word) {
+            Ok(n) => Token::Number(n),
+            Err(NumberFault::TooLarge) => Token::TooLarge,
+            Err(NumberFault::NotANumber) => Token::named(parties, word),
+        }
     }
-    match number(word) {
-        Ok(n) => Token::Number(n),
-        Err(NumberFault::TooLarge) => Token::TooLarge,
-        Err(NumberFault::NotANumber) => named(parties, word),
+
+    // The party with a name.
+    fn named(parties: &[Party], name: &[u8]) -> Token {
+        for (index, party) in parties.iter().enumerate() {
+            if party.name.as_bytes() == name {
+                return Token::Party {
+                    index,
+                    is_node: party.is_node,
+                };
+            }
+        }
+        Token::Unknown
     }
 }
 
@@ -35,29 +47,16 @@ pub(crate) fn tokens_of(
     parties: &[Party],
     line: &[u8],
 ) -> Result<Vec<Token>, AllocError> {
-    let mut tokens = Vec::new(heap);
-    let mut rest = line;
-    for _turn in 0..line.len() {
-        let Some(word) = next_word(rest) else {
-            return Ok(tokens);
-        };
-        tokens.push(token_of(parties, word.text))?;
-        rest = word.rest;
-    }
-    Ok(tokens)
+    line.split(|b| *b == b' ')
+        .filter(|word| !word.is_empty())
+        .map(|word| Token::read(parties, word))
+        .collect(heap)
 }
 
 // The text of a word of a line; nothing where it has no such word.
 pub fn word_at(line: &[u8], at: usize) -> &[u8] {
-    let mut rest = line;
-    for _turn in 0..at {
-        match next_word(rest) {
-            Some(word) => rest = word.rest,
-            None => return &[],
-        }
-    }
-    match next_word(rest) {
-        Some(word) => word.text,
-        None => &[],
-    }
+    line.split(|b| *b == b' ')
+        .filter(|word| !word.is_empty())
+        .nth(at)
+        .unwrap_or(&[])
 }

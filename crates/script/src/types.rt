@@ -1,11 +1,10 @@
 // What a script says, and what can be wrong with one.
-use crate::words::Keyword;
 use schedule::Numbers;
 
 // Somebody in the script: a node that keeps the rules, or another, who does what the script says.
 #[derive(Drop)]
 pub struct Party {
-    pub name: Vec<u8>,
+    pub name: String,
     pub is_node: bool,
 }
 
@@ -126,54 +125,29 @@ pub enum Command {
     Starts {
         node: usize,
     },
-    // bytes as a message, by their number among those of the script
+    // bytes as a message
     Sends {
         from: usize,
         to: usize,
-        raw: usize,
     },
     Show,
 }
 
-// A command, and its line, counted from 1.
-#[derive(Clone, Copy)]
+// A command, and its line, counted from 1. `raw` has the words of hexadecimal digits of a message that is sent as bytes.
+#[derive(Drop)]
 pub struct Step {
     pub line: u32,
     pub command: Command,
+    pub raw: Option<Vec<u8>>,
 }
 
-// A whole script. `tick` is the tick that its lines have come to; `raws` are the lines of messages, as words of hexadecimal digits.
+// A whole script.
 #[derive(Drop)]
 pub struct Script {
-    pub numbers: Option<Numbers>,
+    pub numbers: Numbers,
     pub parties: Vec<Party>,
     pub openings: Vec<Opening>,
     pub steps: Vec<Step>,
-    pub raws: Vec<Vec<u8>>,
-    pub tick: u32,
-}
-
-// A word of a line, by what it can be.
-#[derive(Clone, Copy)]
-pub enum Token {
-    Word(Keyword),
-    Number(u32),
-    TooLarge,
-    Party { index: usize, is_node: bool },
-    Unknown,
-    Nothing,
-}
-
-// What has to stand at a place of a line.
-#[derive(Clone, Copy)]
-pub enum Slot {
-    Is(Keyword),
-    Number,
-    Party,
-    Node,
-    Other,
-    Name,
-    Digits,
 }
 
 // What is wrong with a word of a line, or with the script as a whole.

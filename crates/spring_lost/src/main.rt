@@ -6,8 +6,8 @@ use picture::{Lane, Mark, Picture, Row, Total, draw};
 use std::alloc::{AllocError, Global};
 use std::io::Write;
 
-const TITLE: &[u8] =
-    b"The spring in which money was lost: a node that takes back a promise too early";
+const TITLE: &str =
+    "The spring in which money was lost: a node that takes back a promise too early";
 
 const MILL: usize = 0;
 
@@ -17,17 +17,17 @@ const SMITH: usize = 2;
 
 const REGISTER: usize = 3;
 
-const NAMES: [&[u8]; 4] = [b"mill", b"baker", b"smith", b"register"];
+const NAMES: [&str; 4] = ["mill", "baker", "smith", "register"];
 
 // A row of the table.
 #[derive(Clone, Copy)]
 struct Entry {
     tick: u32,
     mark: Mark,
-    text: &'static [u8],
+    text: &'static str,
 }
 
-fn arrow(tick: u32, from: usize, to: usize, text: &'static [u8]) -> Entry {
+fn arrow(tick: u32, from: usize, to: usize, text: &'static str) -> Entry {
     Entry {
         tick,
         mark: Mark::Arrow { from, to },
@@ -35,7 +35,7 @@ fn arrow(tick: u32, from: usize, to: usize, text: &'static [u8]) -> Entry {
     }
 }
 
-fn note(tick: u32, lane: usize, text: &'static [u8]) -> Entry {
+fn note(tick: u32, lane: usize, text: &'static str) -> Entry {
     Entry {
         tick,
         mark: Mark::Note { lane },
@@ -46,21 +46,17 @@ fn note(tick: u32, lane: usize, text: &'static [u8]) -> Entry {
 // A payment of 5 is offered, passed on, and given back before the smith has signed that it is gone.
 fn promises() -> [Entry; 11] {
     [
-        arrow(0, MILL, BAKER, b"offers 5, key 1, end 300"),
-        arrow(0, BAKER, MILL, b"signature under sheet 1"),
-        note(0, BAKER, b"owner: pass on 5, key 1, end 190, to smith"),
-        arrow(0, BAKER, SMITH, b"signed sheet 1"),
-        arrow(0, SMITH, BAKER, b"signs"),
-        arrow(0, SMITH, BAKER, b"returns key 1, unsigned"),
-        arrow(0, BAKER, SMITH, b"signature under sheet 2"),
-        note(0, BAKER, b"owner: give up key 1 of mill"),
-        note(
-            0,
-            BAKER,
-            b"takes it: sheet 1 with the smith may still count",
-        ),
-        arrow(0, BAKER, MILL, b"signed sheet 2"),
-        arrow(0, MILL, BAKER, b"signs"),
+        arrow(0, MILL, BAKER, "offers 5, key 1, end 300"),
+        arrow(0, BAKER, MILL, "signature under sheet 1"),
+        note(0, BAKER, "owner: pass on 5, key 1, end 190, to smith"),
+        arrow(0, BAKER, SMITH, "signed sheet 1"),
+        arrow(0, SMITH, BAKER, "signs"),
+        arrow(0, SMITH, BAKER, "returns key 1, unsigned"),
+        arrow(0, BAKER, SMITH, "signature under sheet 2"),
+        note(0, BAKER, "owner: give up key 1 of mill"),
+        note(0, BAKER, "takes it: sheet 1 with the smith may still count"),
+        arrow(0, BAKER, MILL, "signed sheet 2"),
+        arrow(0, MILL, BAKER, "signs"),
     ]
 }
 
@@ -77,36 +73,30 @@ fn dispute() -> [Entry; 7] {
     let key = Mark::Key { lane: REGISTER };
     let learns = Mark::Key { lane: BAKER };
     [
-        arrow(150, SMITH, REGISTER, b"shows sheet 1"),
+        arrow(150, SMITH, REGISTER, "shows sheet 1"),
         Entry {
             tick: 150,
             mark: begins,
-            text: b"baker and smith: dispute, sheet 1, until 200",
+            text: "baker and smith: dispute, sheet 1, until 200",
         },
-        arrow(150, SMITH, REGISTER, b"shows key 1"),
+        arrow(150, SMITH, REGISTER, "shows key 1"),
         Entry {
             tick: 150,
             mark: key,
-            text: b"baker and smith: key 1",
+            text: "baker and smith: key 1",
         },
         Entry {
             tick: 156,
             mark: learns,
-            text: b"learns key 1: it opens nothing with the mill any more",
+            text: "learns key 1: it opens nothing with the mill any more",
         },
         Entry {
             tick: 200,
             mark: ends,
-            text: b"baker and smith: ended, sheet 1",
+            text: "baker and smith: ended, sheet 1",
         },
-        note(200, REGISTER, b"5 to the smith, by key 1"),
+        note(200, REGISTER, "5 to the smith, by key 1"),
     ]
-}
-
-fn text_of(heap: Global, text: &[u8]) -> Result<Vec<u8>, AllocError> {
-    let mut out = Vec::new(heap);
-    out.extend_from_slice(text)?;
-    Ok(out)
 }
 
 fn add_rows(heap: Global, rows: &mut Vec<Row>, entries: &[Entry]) -> Result<(), AllocError> {
@@ -115,7 +105,7 @@ fn add_rows(heap: Global, rows: &mut Vec<Row>, entries: &[Entry]) -> Result<(), 
             tick: entry.tick,
             mark: entry.mark,
             refused: false,
-            text: text_of(heap, entry.text)?,
+            text: String::from_str(heap, entry.text)?,
         };
         rows.push(row)?;
     }
@@ -137,7 +127,7 @@ fn lanes(heap: Global) -> Result<Vec<Lane>, AllocError> {
     let mut lanes = Vec::new(heap);
     for (at, name) in NAMES.iter().enumerate() {
         let lane = Lane {
-            name: text_of(heap, name)?,
+            name: String::from_str(heap, name)?,
             total: total_of(at),
         };
         lanes.push(lane)?;
@@ -150,7 +140,7 @@ fn spring(heap: Global) -> Result<Vec<u8>, AllocError> {
     add_rows(heap, &mut rows, &promises())?;
     add_rows(heap, &mut rows, &dispute())?;
     let picture = Picture {
-        title: text_of(heap, TITLE)?,
+        title: String::from_str(heap, TITLE)?,
         lanes: lanes(heap)?,
         rows,
     };

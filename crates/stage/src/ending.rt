@@ -1,7 +1,11 @@
 // What is there at a moment, and what each node comes out with.
+use crate::joint::Joint;
+use crate::player::Player;
+use crate::progress::Progress;
 use crate::types::{Ending, Happening, Trouble};
 use crate::world::World;
 use account::{Account, Next};
+use node_state::Terms;
 use register::Phase;
 
 // Nothing is open on what may count.
@@ -13,184 +17,138 @@ fn is_clean(account: &Account) -> bool {
     }
 }
 
-impl World {
-    fn party_of(&self, player: usize) -> Option<usize> {
-        match self.players.get(player) {
-            Some(found) => Some(found.party),
-            None => None,
-        }
+impl Joint {
+    // The account as a node has it, where it is one of the node's.
+    fn standing_of(&self, player: &Player) -> Option<Account> {
+        let number = self.number_for(player.party)?;
+        Some(player.node.account(usize::from(number)))
     }
 
-    // A node's own number for an account, and the account as the node has it.
-    fn standing_in(&self, player: usize, account: usize) -> Option<Account> {
-        let found = self.players.get(player)?;
-        let joint = self.accounts.get(account)?;
-        let number = joint.number_for(found.party)?;
-        Some(found.node.account(number))
-    }
-
-    fn show_standing(&mut self, player: usize, account: usize) -> Result<(), Trouble> {
-        let Some(node) = self.party_of(player) else {
+    fn show_standing(&self, progress: &mut Progress, player: &Player) -> Result<(), Trouble> {
+        let Some(standing) = self.standing_of(player) else {
             return Ok(());
         };
-        let Some(standing) = self.standing_in(player, account) else {
-            return Ok(());
-        };
-        self.note(Happening::Held {
-            node,
-            account,
+        progress.note(Happening::Held {
+            node: player.party,
+            account: self.account,
             sheet: standing.held,
             frozen: standing.is_frozen(),
         })?;
         if let Next::Sent = standing.next {
-            self.note(Happening::Next {
-                node,
-                account,
+            progress.note(Happening::Next {
+                node: player.party,
+                account: self.account,
                 sheet: standing.next_sheet,
             })?;
         }
         Ok(())
     }
 
-    fn show_standings(&mut self, player: usize) -> Result<(), Trouble> {
-        for account in 0..self.accounts.len() {
-            self.show_standing(player, account)?;
-        }
-        Ok(())
-    }
-
-    // The key that was shown for an account at a place.
-    fn page_key(&self, account: usize, at: usize) -> Option<Happening> {
-        let joint = self.accounts.get(account)?;
-        let known = joint.page.keys().get(at)?;
-        Some(Happening::PageKey {
-            account,
-            key: known.key,
-            tick: known.tick,
-        })
-    }
-
-    fn key_count(&self, account: usize) -> usize {
-        match self.accounts.get(account) {
-            Some(joint) => joint.page.keys().len(),
-            None => 0,
-        }
-    }
-
-    fn show_page(&mut self, account: usize) -> Result<(), Trouble> {
-        let phase = match self.accounts.get(account) {
-            Some(joint) => joint.page.phase(),
-            None => return Ok(()),
-        };
-        self.note(Happening::Page { account, phase })?;
-        for at in 0..self.key_count(account) {
-            if let Some(what) = self.page_key(account, at) {
-                self.note(what)?;
-            }
-        }
-        Ok(())
-    }
-
-    // Sheets, disputes and keys.
-    pub(crate) fn show_all(&mut self) -> Result<(), Trouble> {
-        for player in 0..self.players.len() {
-            self.show_standings(player)?;
-        }
-        for account in 0..self.accounts.len() {
-            self.show_page(account)?;
+    fn show_page(&self, progress: &mut Progress) -> Result<(), Trouble> {
+        let account = self.account;
+        let phase = self.page.phase();
+        progress.note(Happening::Page { account, phase })?;
+        for known in self.page.keys() {
+            progress.note(Happening::PageKey {
+                account,
+                key: known.key,
+                tick: known.tick,
+            })?;
         }
         Ok(())
     }
 
     // How the account of a node was ended, or that it was not.
-    fn ending_of(&self, player: usize, account: usize) -> Option<Ending> {
-        let party = self.party_of(player)?;
-        let standing = self.standing_in(player, account)?;
-        let joint = self.accounts.get(account)?;
-        let delay = self.terms.delay;
-        if joint.page.is_settled(delay, self.tick) {
-            return Some(Ending::ByDispute {
-                paid: joint.payout_for(party, delay),
-            });
+    fn ending_of(&self, player: &Player, terms: Terms, tick: u32) -> Option<Ending> {
+        let standing = self.standing_of(player)?;
+        if self.page.is_settled(terms.delay, tick) {
+            let paid = self.payout_for(player.party, terms.delay);
+            return Some(Ending::ByDispute { paid });
         }
-        if let Phase::Quiet = joint.page.phase() {
-            if is_clean(&standing) {
-                return Some(Ending::ByAgreement {
-                    paid: u64::from(standing.held.own),
-                });
+        Some(match self.page.phase() {
+            Phase::Quiet if is_clean(&standing) => Ending::ByAgreement {
+                paid: u64::from(standing.held.own),
+            },
+            _ => Ending::NotSettled,
+        })
+    }
+}
+
+// The accounts of a node together; `came_out` as long as all of them are settled.
+#[derive(Clone, Copy)]
+struct Sum {
+    put_in: u64,
+    came_out: Option<u64>,
+}
+
+impl Sum {
+    fn add(self, put_in: u32, ending: Ending) -> Sum {
+        Sum {
+            put_in: self.put_in.saturating_add(u64::from(put_in)),
+            came_out: match (self.came_out, ending.paid()) {
+                (Some(sum), Some(paid)) => Some(sum.saturating_add(paid)),
+                _ => None,
+            },
+        }
+    }
+}
+
+// What a node put in and comes out with, account by account and in all.
+fn end_node(
+    progress: &mut Progress,
+    accounts: &[Joint],
+    player: &Player,
+    terms: Terms,
+) -> Result<(), Trouble> {
+    let node = player.party;
+    let mut sum = Sum {
+        put_in: 0,
+        came_out: Some(0),
+    };
+    for joint in accounts {
+        if let Some(ending) = joint.ending_of(player, terms, progress.tick) {
+            let put_in = joint.end_of(node).put_in;
+            sum = sum.add(put_in, ending);
+            progress.note(Happening::Result {
+                node,
+                account: joint.account,
+                put_in,
+                ending,
+            })?;
+        }
+    }
+    progress.note(Happening::Total {
+        node,
+        put_in: sum.put_in,
+        came_out: sum.came_out,
+    })
+}
+
+impl World {
+    // Sheets, disputes and keys.
+    pub(crate) fn show_all(&mut self) -> Result<(), Trouble> {
+        for player in self.players.iter() {
+            for joint in self.scene.accounts.iter() {
+                joint.show_standing(&mut self.scene.progress, player)?;
             }
         }
-        Some(Ending::NotSettled)
-    }
-
-    // What one account adds to what a node put in and comes out with.
-    fn end_account(&mut self, player: usize, account: usize, sum: &mut Sum) -> Result<(), Trouble> {
-        let Some(node) = self.party_of(player) else {
-            return Ok(());
-        };
-        let Some(ending) = self.ending_of(player, account) else {
-            return Ok(());
-        };
-        let put_in = match self.accounts.get(account) {
-            Some(joint) => joint.put_in_by(node),
-            None => 0,
-        };
-        sum.add(put_in, ending);
-        self.note(Happening::Result {
-            node,
-            account,
-            put_in,
-            ending,
-        })
-    }
-
-    fn end_node(&mut self, player: usize) -> Result<(), Trouble> {
-        let Some(node) = self.party_of(player) else {
-            return Ok(());
-        };
-        let mut sum = Sum {
-            put_in: 0,
-            came_out: 0,
-            settled: true,
-        };
-        for account in 0..self.accounts.len() {
-            self.end_account(player, account, &mut sum)?;
+        for joint in self.scene.accounts.iter() {
+            joint.show_page(&mut self.scene.progress)?;
         }
-        self.note(Happening::Total {
-            node,
-            put_in: sum.put_in,
-            came_out: sum.came_out,
-            settled: sum.settled,
-        })
+        Ok(())
     }
 
     // What each node put in and comes out with.
     pub(crate) fn end_all(&mut self) -> Result<(), Trouble> {
-        for player in 0..self.players.len() {
-            self.end_node(player)?;
+        let terms = self.scene.terms;
+        for player in self.players.iter() {
+            end_node(
+                &mut self.scene.progress,
+                self.scene.accounts.as_slice(),
+                player,
+                terms,
+            )?;
         }
         Ok(())
-    }
-}
-
-// The accounts of a node together.
-#[derive(Clone, Copy)]
-struct Sum {
-    put_in: u64,
-    came_out: u64,
-    settled: bool,
-}
-
-impl Sum {
-    fn add(&mut self, put_in: u32, ending: Ending) {
-        self.put_in = self.put_in.saturating_add(u64::from(put_in));
-        match ending {
-            Ending::ByDispute { paid } | Ending::ByAgreement { paid } => {
-                self.came_out = self.came_out.saturating_add(paid);
-            }
-            Ending::NotSettled => {
-                self.settled = false;
-            }
-        }
     }
 }

@@ -1,68 +1,60 @@
 // An account of two parties, with the register's page for it.
+use crate::progress::{Delivery, Progress};
+use crate::types::{Happening, Letter, Trouble};
+use judgement::Signature;
+use node_state::Terms;
 use register::{Page, Phase};
-use sheet::Sheet;
+use rules::Message;
+use sheet::{Sheet, same_lock};
 use std::alloc::{AllocError, Global};
 
 // One party's side: its number for the account, what it put in, and the sheets that it signed and sent, in its own view.
 #[derive(Drop)]
 pub(crate) struct End {
     pub(crate) party: usize,
-    pub(crate) number: usize,
+    pub(crate) is_node: bool,
+    pub(crate) number: u8,
     pub(crate) put_in: u32,
     pub(crate) signed: Vec<Sheet>,
 }
 
-// The page is in the first party's view.
+// `account` is its number in the script. The page is in the first party's view.
 #[derive(Drop)]
 pub(crate) struct Joint {
+    pub(crate) account: usize,
     pub(crate) first: End,
     pub(crate) second: End,
     pub(crate) page: Page,
 }
 
-// What a sheet that came in made of the page.
+// What comes into the register: a sheet with both signatures, in the page's view, or a key.
 #[derive(Clone, Copy)]
-pub(crate) enum PageChange {
-    Opened { until: u64 },
-    Replaced { until: u64 },
-    Nothing,
+pub(crate) enum Item {
+    Sheet(Sheet),
+    Key([u8; 32]),
 }
 
 impl End {
-    pub(crate) fn new(
-        heap: Global,
-        party: usize,
-        number: usize,
-        put_in: u32,
-        theirs: u32,
-    ) -> Result<End, AllocError> {
-        let mut signed = Vec::new(heap);
-        let first = Sheet::first((number & 0xff) as u8, put_in, theirs);
-        signed.push(first)?;
-        Ok(End {
-            party,
-            number,
-            put_in,
-            signed,
-        })
-    }
-
     // The sheet with a number that the party has signed.
     fn signed_with(&self, number: u32) -> Option<Sheet> {
-        for sheet in self.signed.iter() {
-            if sheet.number == number {
-                return Some(*sheet);
-            }
-        }
-        None
+        self.signed
+            .iter()
+            .copied()
+            .find(|sheet| sheet.number == number)
     }
 
     fn add_signed(&mut self, sheet: Sheet) -> Result<(), AllocError> {
-        if self.signed_with(sheet.number).is_some() {
-            return Ok(());
+        if self.signed_with(sheet.number).is_none() {
+            self.signed.push(sheet)?;
         }
-        self.signed.push(sheet)?;
         Ok(())
+    }
+
+    fn signature(&self, number: u32) -> Signature {
+        Signature {
+            account: self.number,
+            number,
+        }
     }
 }
 
@@ -70,29 +62,9 @@ impl End {
 pub(crate) fn shown_in(phase: &Phase) -> Option<(u32, u64)> {
     match *phase {
         Phase::Quiet => None,
-        Phase::Disputed { sheet, until } => Some((sheet.number, until)),
-        Phase::Ended { sheet, until } => Some((sheet.number, until)),
-    }
-}
-
-fn is_ended(phase: &Phase) -> bool {
-    match *phase {
-        Phase::Ended { .. } => true,
-        _ => false,
-    }
-}
-
-fn change_between(before: &Phase, after: &Phase) -> PageChange {
-    match (shown_in(before), shown_in(after)) {
-        (None, Some((_, until))) => PageChange::Opened { until },
-        (Some((old, _)), Some((new, until))) => {
-            if old == new {
-                PageChange::Nothing
-            } else {
-                PageChange::Replaced { until }
-            }
+        Phase::Disputed { sheet, until } | Phase::Ended { sheet, until } => {
+            Some((sheet.number, until))
         }
-        _ => PageChange::Nothing,
     }
 }
 
@@ -103,74 +75,127 @@ impl Joint {
         as_written || turned
     }
 
+    // A party's side, and the other; the second party's side for whoever is not the first.
+    pub(crate) fn end_of(&self, party: usize) -> &End {
+        if self.first.party == party {
+            &self.first
+        } else {
+            &self.second
+        }
+    }
+
+    fn other_end(&self, party: usize) -> &End {
+        if self.first.party == party {
+            &self.second
+        } else {
+            &self.first
+        }
+    }
+
     // A party's own number for the account; none where it isn't the party's.
-    pub(crate) fn number_for(&self, party: usize) -> Option<usize> {
-        if self.first.party == party {
-            return Some(self.first.number);
+    pub(crate) fn number_for(&self, party: usize) -> Option<u8> {
+        let end = self.end_of(party);
+        if end.party == party {
+            Some(end.number)
+        } else {
+            None
         }
-        if self.second.party == party {
-            return Some(self.second.number);
-        }
-        None
-    }
-
-    pub(crate) fn put_in_by(&self, party: usize) -> u32 {
-        if self.first.party == party {
-            return self.first.put_in;
-        }
-        self.second.put_in
-    }
-
-    // The party at the other end.
-    pub(crate) fn neighbour_of(&self, party: usize) -> usize {
-        if self.first.party == party {
-            return self.second.party;
-        }
-        self.first.party
     }
 
     // The party has signed the sheet and sent it off.
-    pub(crate) fn note_signed(&mut self, party: usize, sheet: Sheet) -> Result<(), AllocError> {
+    fn note_signed(&mut self, party: usize, sheet: Sheet) -> Result<(), AllocError> {
         if self.first.party == party {
-            return self.first.add_signed(sheet);
+            self.first.add_signed(sheet)
+        } else {
+            self.second.add_signed(sheet)
         }
-        self.second.add_signed(sheet)
     }
 
-    // The sheet with a number that a party has signed, in that party's view.
-    pub(crate) fn signed_by(&self, party: usize, number: u32) -> Option<Sheet> {
-        if self.first.party == party {
-            return self.first.signed_with(number);
-        }
-        self.second.signed_with(number)
+    // The sheet with a number that a party has signed, in the page's view.
+    pub(crate) fn shown_by(&self, party: usize, number: u32) -> Option<Sheet> {
+        let sheet = self.end_of(party).signed_with(number)?;
+        Some(self.in_page_view(party, sheet))
     }
 
     // A sheet in a party's view, as the page has it.
     pub(crate) fn in_page_view(&self, party: usize, sheet: Sheet) -> Sheet {
         if self.first.party == party {
-            return sheet;
+            sheet
+        } else {
+            sheet.turned()
         }
-        sheet.turned()
     }
 
-    // A sheet with both signatures, in the page's view, comes into the register.
-    pub(crate) fn sheet_comes(&mut self, window: u32, tick: u32, sheet: Sheet) -> PageChange {
-        let before = self.page.phase();
-        self.page.show_sheet(window, tick, sheet);
-        change_between(&before, &self.page.phase())
+    pub(crate) fn sheet_comes(
+        &mut self,
+        progress: &mut Progress,
+        terms: Terms,
+        sheet: Sheet,
+    ) -> Result<(), Trouble> {
+        let account = self.account;
+        let number = sheet.number;
+        let before = shown_in(&self.page.phase());
+        self.page.show_sheet(terms.window, progress.tick, sheet);
+        let after = shown_in(&self.page.phase());
+        progress.note(match (before, after) {
+            (None, Some((_, until))) => Happening::Opened {
+                account,
+                number,
+                until,
+            },
+            (Some((old, _)), Some((new, until))) if old != new => Happening::Replaced {
+                account,
+                number,
+                until,
+            },
+            _ => Happening::TurnedAway { account, number },
+        })
     }
 
-    // Time goes on in the register; the number of the sheet that counts, if the dispute ends now.
-    pub(crate) fn turn_to(&mut self, tick: u32) -> Option<u32> {
-        let before = self.page.phase();
-        self.page.turn_to(tick);
-        let after = self.page.phase();
-        if is_ended(&before) || !is_ended(&after) {
-            return None;
+    // A key counts from when it is first shown for the account.
+    pub(crate) fn key_comes(
+        &mut self,
+        progress: &mut Progress,
+        key: [u8; 32],
+    ) -> Result<(), Trouble> {
+        if self
+            .page
+            .keys()
+            .iter()
+            .any(|known| same_lock(&known.key, &key))
+        {
+            return Ok(());
         }
-        match shown_in(&after) {
-            Some((number, _)) => Some(number),
-            None => None,
+        self.page.show_key(progress.tick, key)?;
+        progress.note(Happening::KeyCame {
+            account: self.account,
+            key,
+        })
+    }
+
+    pub(crate) fn item_comes(
+        &mut self,
+        progress: &mut Progress,
+        terms: Terms,
+        item: Item,
+    ) -> Result<(), Trouble> {
+        match item {
+            Item::Sheet(sheet) => self.sheet_comes(progress, terms, sheet),
+            Item::Key(key) => self.key_comes(progress, key),
+        }
+    }
+
+    // Time goes on in the register; if the dispute ends now, that is told with the sheet that counts.
+    pub(crate) fn turn(&mut self, progress: &mut Progress) -> Result<(), Trouble> {
+        let before = self.page.phase();
+        self.page.turn_to(progress.tick);
+        match (before, self.page.phase()) {
+            (Phase::Ended { .. }, _) => Ok(()),
+            (_, Phase::Ended { sheet, .. }) => progress.note(Happening::Ended {
+                account: self.account,
+                number: sheet.number,
+            }),
+            _ => Ok(()),
         }
     }
 
@@ -182,5 +207,57 @@ impl Joint {
         }
         let all = u64::from(self.first.put_in) + u64::from(self.second.put_in);
         all.saturating_sub(first)
+    }
+
+    // A message is told, and goes on to the neighbour if that is a node.
+    fn send(
+        &self,
+        progress: &mut Progress,
+        from: usize,
+        letter: Letter,
+        message: Message,
+    ) -> Result<(), Trouble> {
+        let other = self.other_end(from);
+        let to = other.party;
+        progress.note(Happening::Sent { from, to, letter })?;
+        if other.is_node {
+            progress.deliveries.push_back(Delivery {
+                from,
+                to,
+                account: other.number,
+                letter,
+                message,
+            })?;
+        }
+        Ok(())
+    }
+
+    // A party sends a sheet with its signature under it.
+    pub(crate) fn send_sheet(
+        &mut self,
+        progress: &mut Progress,
+        party: usize,
+        sheet: Sheet,
+    ) -> Result<(), Trouble> {
+        self.note_signed(party, sheet)?;
+        let number = sheet.number;
+        let signature = self.end_of(party).signature(number);
+        let message = Message::ProposedSigned(sheet, signature);
+        self.send(progress, party, Letter::Sheet { number }, message)
+    }
+
+    // A party sends its signature under the sheet with a number, which it may have.
+    pub(crate) fn send_signature(
+        &mut self,
+        progress: &mut Progress,
+        party: usize,
+        number: u32,
+        sheet: Option<Sheet>,
+    ) -> Result<(), Trouble> {
+        if let Some(sheet) = sheet {
+            self.note_signed(party, sheet)?;
+        }
+        let message = Message::Signed(self.end_of(party).signature(number));
+        self.send(progress, party, Letter::Signature { number }, message)
     }
 }

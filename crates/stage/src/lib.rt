@@ -5,14 +5,15 @@
 
 use crate::joint::{End, Joint};
 use crate::player::Player;
-use crate::world::World;
+use crate::progress::Progress;
+use crate::world::{Scene, World, player_in};
 use node_state::Terms;
 use register::Page;
 use schedule::Numbers;
-use script::{Command, Opening, Script};
+use script::{Opening, Script};
+use sheet::Sheet;
 use std::alloc::Global;
 
-mod arriving;
 mod ending;
 mod entries;
 mod joint;
@@ -20,6 +21,7 @@ mod leaving;
 mod others;
 mod player;
 mod playing;
+mod progress;
 mod raw;
 mod time;
 mod troubles;
@@ -29,6 +31,7 @@ mod world;
 
 pub use types::{Answer, Ending, Event, Happening, Letter, Trouble};
 
+// The numbers as a node has them. Both types are of other crates, so that no `From` can stand here.
 fn terms_of(numbers: Numbers) -> Terms {
     let values = numbers.values();
     Terms {
@@ -49,93 +52,83 @@ fn players_of(heap: Global, script: &Script, terms: Terms) -> Result<Vec<Player>
     Ok(players)
 }
 
-// Opens a party's side of an account: its own number for it, where it is a node.
-fn open_side(
-    players: &mut Vec<Player>,
+// Opens a party's side of an account: by its own number for it, where it is a node.
+fn open_end(
+    heap: Global,
+    players: &mut [Player],
     party: usize,
-    own: u32,
+    put_in: u32,
     theirs: u32,
-) -> Result<usize, Trouble> {
-    for player in players.iter_mut() {
-        if player.party == party {
-            return Ok(player.open(own, theirs)?);
-        }
-    }
-    Ok(0)
+) -> Result<End, Trouble> {
+    let player = player_in(players, party);
+    let is_node = player.is_some();
+    let number = match player {
+        Some(player) => player.open(put_in, theirs)?,
+        None => 0,
+    };
+    let mut signed = Vec::new(heap);
+    signed.push(Sheet::first(number, put_in, theirs))?;
+    Ok(End {
+        party,
+        is_node,
+        number,
+        put_in,
+        signed,
+    })
 }
 
-fn joint_of(heap: Global, players: &mut Vec<Player>, opening: Opening) -> Result<Joint, Trouble> {
+fn joint_of(
+    heap: Global,
+    players: &mut [Player],
+    account: usize,
+    opening: &Opening,
+) -> Result<Joint, Trouble> {
     let own = opening.first_put_in;
     let theirs = opening.second_put_in;
-    let first = open_side(players, opening.first, own, theirs)?;
-    let second = open_side(players, opening.second, theirs, own)?;
     Ok(Joint {
-        first: End::new(heap, opening.first, first, own, theirs)?,
-        second: End::new(heap, opening.second, second, theirs, own)?,
+        account,
+        first: open_end(heap, players, opening.first, own, theirs)?,
+        second: open_end(heap, players, opening.second, theirs, own)?,
         page: Page::new(heap),
     })
 }
 
 fn joints_of(
     heap: Global,
-    players: &mut Vec<Player>,
+    players: &mut [Player],
     openings: &[Opening],
 ) -> Result<Vec<Joint>, Trouble> {
     let mut joints = Vec::new(heap);
-    for opening in openings {
-        joints.push(joint_of(heap, players, *opening)?)?;
+    for (account, opening) in openings.iter().enumerate() {
+        joints.push(joint_of(heap, players, account, opening)?)?;
     }
     Ok(joints)
 }
 
-fn world_of(heap: Global, script: &Script, numbers: Numbers) -> Result<World, Trouble> {
-    let terms = terms_of(numbers);
+fn world_of(heap: Global, script: &Script) -> Result<World, Trouble> {
+    let terms = terms_of(script.numbers);
     let mut players = players_of(heap, script, terms)?;
-    let accounts = joints_of(heap, &mut players, script.openings.as_slice())?;
-    Ok(World {
+    let accounts = joints_of(heap, players.as_mut_slice(), script.openings.as_slice())?;
+    let scene = Scene {
         heap,
         terms,
-        tick: 0,
-        line: 0,
         at_once: false,
-        players,
         accounts,
         arrivals: Vec::new(heap),
-        deliveries: Vec::new(heap),
-        events: Vec::new(heap),
-    })
-}
-
-fn play_step(
-    world: &mut World,
-    raws: &[Vec<u8>],
-    line: u32,
-    command: Command,
-) -> Result<(), Trouble> {
-    world.line = line;
-    if let Command::Sends { from, to, raw } = command {
-        if raw < raws.len() {
-            return world.send_raw(from, to, raws[raw].as_slice(), command);
-        }
-    }
-    world.play(command)
-}
-
-fn play_steps(world: &mut World, script: &Script) -> Result<(), Trouble> {
-    for step in script.steps.iter() {
-        play_step(world, script.raws.as_slice(), step.line, step.command)?;
-    }
-    Ok(())
+        progress: Progress::new(heap),
+    };
+    Ok(World { players, scene })
 }
 
 // All that happens in a script, from the first look to what each node comes out with.
 pub fn play(heap: Global, script: &Script) -> Result<Vec<Event>, Trouble> {
-    let Some(numbers) = script.numbers else {
-        return Ok(Vec::new(heap));
-    };
-    let mut world = world_of(heap, script, numbers)?;
+    let mut world = world_of(heap, script)?;
     world.first_looks()?;
-    play_steps(&mut world, script)?;
+    for step in script.steps.iter() {
+        world.play_step(step)?;
+    }
     world.end_all()?;
-    Ok(world.events)
+    let World { scene, .. } = world;
+    let Scene { progress, .. } = scene;
+    Ok(progress.events)
 }

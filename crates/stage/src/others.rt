@@ -1,5 +1,6 @@
 // What the others do: they propose, sign, and show in the register, as the script says.
-use crate::types::{Answer, Happening, Trouble};
+use crate::joint::Item;
+use crate::types::{Answer, Trouble};
 use crate::world::World;
 use account::{Account, Next};
 use change::{Change, apply};
@@ -9,7 +10,7 @@ use script::{Command, Promised};
 use sheet::{Payment, Sheet};
 use small_keys::{key_of, lock_of};
 
-fn payment(promised: Promised) -> Payment {
+pub(crate) fn payment(promised: Promised) -> Payment {
     Payment {
         lock: lock_of(promised.key),
         amount: promised.amount,
@@ -19,24 +20,24 @@ fn payment(promised: Promised) -> Payment {
 
 // A payment of which only the lock counts.
 fn with_lock(key: u32) -> Payment {
-    Payment {
-        lock: lock_of(key),
+    payment(Promised {
+        key,
         amount: 0,
         end: 0,
-    }
+    })
+}
+
+// The signature of another: its number for the account is not looked at.
+fn signature(number: u32) -> Signature {
+    Signature { account: 0, number }
 }
 
 fn proposing(sheet: Sheet, signed: bool) -> Message {
     if signed {
-        return Message::ProposedSigned(
-            sheet,
-            Signature {
-                account: 0,
-                number: sheet.number,
-            },
-        );
+        Message::ProposedSigned(sheet, signature(sheet.number))
+    } else {
+        Message::Proposed(sheet)
     }
-    Message::Proposed(sheet)
 }
 
 // The number of the sheet that another signs: that of the node's next, where there is one.
@@ -50,48 +51,44 @@ fn number_to_sign(account: &Account) -> u32 {
 impl World {
     // A node's account with another party.
     fn standing_with(&self, node: usize, other: usize) -> Option<Account> {
-        let i = self.player_of(node)?;
-        let player = self.players.get(i)?;
-        Some(player.node.account(self.number_of(node, other)))
+        let number = self.number_of(node, other)?;
+        Some(self.player(node)?.node.account(usize::from(number)))
     }
 
     // The sheet that another proposes, in its own view: the node's held sheet with a change.
     fn proposed(&self, from: usize, to: usize, change: Change, payment: Payment) -> Option<Sheet> {
         let account = self.standing_with(to, from)?;
-        match apply(account.held.turned(), change, payment) {
-            Ok(sheet) => Some(sheet),
-            Err(_) => None,
+        apply(account.held.turned(), change, payment).ok()
+    }
+
+    // A message of another to a node, for their account.
+    pub(crate) fn told_by(
+        &mut self,
+        from: usize,
+        to: usize,
+        message: Message,
+        command: Command,
+    ) -> Result<(), Trouble> {
+        match self.number_of(to, from) {
+            Some(account) => self.told(to, account, message, command),
+            None => Ok(()),
         }
     }
 
-    fn propose(
+    // Another proposes a sheet with a change to what a node holds.
+    pub(crate) fn propose(
         &mut self,
         from: usize,
         to: usize,
-        sheet: Option<Sheet>,
+        change: Change,
+        payment: Payment,
         signed: bool,
         command: Command,
     ) -> Result<(), Trouble> {
-        let Some(sheet) = sheet else {
-            return self.note(Happening::Played {
-                command,
-                answer: Answer::NoSheet,
-            });
-        };
-        let account = self.number_of(to, from);
-        self.told(to, account, proposing(sheet, signed), command)
-    }
-
-    pub(crate) fn offer(
-        &mut self,
-        from: usize,
-        to: usize,
-        promised: Promised,
-        signed: bool,
-        command: Command,
-    ) -> Result<(), Trouble> {
-        let sheet = self.proposed(from, to, Change::PassingOn, payment(promised));
-        self.propose(from, to, sheet, signed, command)
+        match self.proposed(from, to, change, payment) {
+            Some(sheet) => self.told_by(from, to, proposing(sheet, signed), command),
+            None => self.played(command, Answer::NoSheet),
+        }
     }
 
     // The other takes an out of the node off: back to the node, or, where it pays, an in.
@@ -104,33 +101,24 @@ impl World {
         signed: bool,
         command: Command,
     ) -> Result<(), Trouble> {
-        let sheet = self.proposed(from, to, change, with_lock(key));
-        self.propose(from, to, sheet, signed, command)
+        self.propose(from, to, change, with_lock(key), signed, command)
     }
 
     pub(crate) fn sign(&mut self, from: usize, to: usize, command: Command) -> Result<(), Trouble> {
-        let Some(account) = self.standing_with(to, from) else {
-            return Ok(());
-        };
-        let signature = Signature {
-            account: 0,
-            number: number_to_sign(&account),
-        };
-        let number = self.number_of(to, from);
-        self.told(to, number, Message::Signed(signature), command)
+        match self.standing_with(to, from) {
+            Some(account) => {
+                let message = Message::Signed(signature(number_to_sign(&account)));
+                self.told_by(from, to, message, command)
+            }
+            None => Ok(()),
+        }
     }
 
     pub(crate) fn key_to(&mut self, key: u32, to: usize, command: Command) -> Result<(), Trouble> {
         self.told(to, 0, Message::Key(key_of(key)), command)
     }
 
-    // A sheet that the node has signed, in the page's view.
-    fn shown_sheet(&self, account: usize, of: usize, number: u32) -> Option<Sheet> {
-        let joint = self.accounts.get(account)?;
-        let sheet = joint.signed_by(of, number)?;
-        Some(joint.in_page_view(of, sheet))
-    }
-
+    // A sheet that the node has signed comes into the register.
     pub(crate) fn show_old(
         &mut self,
         by: usize,
@@ -138,22 +126,15 @@ impl World {
         number: u32,
         command: Command,
     ) -> Result<(), Trouble> {
-        let Some(account) = self.account_of(by, of) else {
+        let Some(joint) = self.account_of(by, of) else {
             return Ok(());
         };
-        match self.shown_sheet(account, of, number) {
-            Some(sheet) => {
-                self.note(Happening::Played {
-                    command,
-                    answer: Answer::Taken,
-                })?;
-                self.sheet_comes(account, sheet)
-            }
-            None => self.note(Happening::Played {
-                command,
-                answer: Answer::NoSheet,
-            }),
-        }
+        let Some(sheet) = joint.shown_by(of, number) else {
+            return self.played(command, Answer::NoSheet);
+        };
+        let account = joint.account;
+        self.played(command, Answer::Taken)?;
+        self.scene.item_comes(account, Item::Sheet(sheet))
     }
 
     pub(crate) fn show_key_for(
@@ -163,13 +144,11 @@ impl World {
         second: usize,
         command: Command,
     ) -> Result<(), Trouble> {
-        let Some(account) = self.account_of(first, second) else {
+        let Some(joint) = self.account_of(first, second) else {
             return Ok(());
         };
-        self.note(Happening::Played {
-            command,
-            answer: Answer::Taken,
-        })?;
-        self.key_comes(account, key_of(key))
+        let account = joint.account;
+        self.played(command, Answer::Taken)?;
+        self.scene.item_comes(account, Item::Key(key_of(key)))
     }
 }

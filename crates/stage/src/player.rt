@@ -1,11 +1,11 @@
 // A node in the rehearsal: the same node as the program's, and its file in memory.
 use crate::types::{Answer, Trouble};
+use account::Next;
 use journal::{Record, push_record};
 use looking::{Shown, look};
 use node_state::{Node, Terms};
 use plan::{Act, Plan};
-use refusal::Refusal;
-use replay::replay;
+use replay::{Replayed, replay};
 use rules::{Call, Message, call, message};
 use sheet::Sheet;
 use std::alloc::{AllocError, Global};
@@ -30,13 +30,6 @@ pub(crate) struct Player {
     pub(crate) looked: u32,
     pub(crate) by_hand_until: u64,
     pub(crate) missed: bool,
-}
-
-fn answered(answer: Result<(), Refusal>) -> Answer {
-    match answer {
-        Ok(()) => Answer::Taken,
-        Err(refusal) => Answer::Refused(refusal),
-    }
 }
 
 // The record of an act, where it is one.
@@ -72,10 +65,10 @@ impl Player {
     }
 
     // One account more; its first sheet is recorded.
-    pub(crate) fn open(&mut self, own: u32, theirs: u32) -> Result<usize, AllocError> {
-        let number = self.node.many();
+    pub(crate) fn open(&mut self, own: u32, theirs: u32) -> Result<u8, AllocError> {
+        let number = (self.node.many() & 0xff) as u8;
         if self.node.open_account(own, theirs) {
-            let first = Sheet::first((number & 0xff) as u8, own, theirs);
+            let first = Sheet::first(number, own, theirs);
             push_record(&mut self.file, &Record::Both(first))?;
             self.synced = self.file.len();
         }
@@ -87,19 +80,19 @@ impl Player {
         if !self.running {
             return Ok(Answer::Stopped);
         }
-        Ok(answered(call(&mut self.node, plan, asked)?))
+        Ok(call(&mut self.node, plan, asked)?.into())
     }
 
     pub(crate) fn tell(
         &mut self,
         plan: &mut Plan,
-        account: u32,
+        account: u8,
         told: Message,
     ) -> Result<Answer, Trouble> {
         if !self.running {
             return Ok(Answer::Stopped);
         }
-        Ok(answered(message(&mut self.node, plan, account, told)?))
+        Ok(message(&mut self.node, plan, u32::from(account), told)?.into())
     }
 
     pub(crate) fn look(
@@ -111,10 +104,29 @@ impl Player {
         if !self.running {
             return Ok(Answer::Stopped);
         }
-        let answer = answered(look(&mut self.node, plan, tick, shown)?);
+        let answer = look(&mut self.node, plan, tick, shown)?;
         self.looked = tick;
         self.missed = false;
-        Ok(answer)
+        Ok(answer.into())
+    }
+
+    // Does the node look by itself at a tick, if it runs.
+    pub(crate) fn looks_by_itself(&self, tick: u32) -> bool {
+        self.by_hand_until <= u64::from(tick)
+    }
+
+    // The sheet with a number that the node has as its next or as held.
+    pub(crate) fn sheet_of(&self, account: usize, number: u32) -> Option<Sheet> {
+        let account = self.node.account(account);
+        if let Next::Sent = account.next {
+            if account.next_sheet.number == number {
+                return Some(account.next_sheet);
+            }
+        }
+        if account.held.number == number {
+            return Some(account.held);
+        }
+        None
     }
 
     fn carry(&mut self, act: &Act) -> Result<(), AllocError> {
@@ -143,30 +155,26 @@ impl Player {
         }
     }
 
-    // Carries out the acts of an entry as far as the node gets, and says how many: all, or up to where it stops.
-    pub(crate) fn carry_out(&mut self, acts: &[Act]) -> Result<usize, AllocError> {
-        if acts.is_empty() {
-            return Ok(0);
+    // Carries out the acts of an entry as far as the node gets, all or up to where it stops, and gives those.
+    pub(crate) fn carry_out<'a>(&mut self, acts: &'a [Act]) -> Result<&'a [Act], AllocError> {
+        match self.cut {
+            Some(cut) if !acts.is_empty() => {
+                let done = &acts[..cut.acts.min(acts.len())];
+                self.carry_all(done)?;
+                self.stop(cut.lost);
+                Ok(done)
+            }
+            _ => {
+                self.carry_all(acts)?;
+                Ok(acts)
+            }
         }
-        let Some(cut) = self.cut else {
-            self.carry_all(acts)?;
-            return Ok(acts.len());
-        };
-        let done = if cut.acts < acts.len() {
-            cut.acts
-        } else {
-            acts.len()
-        };
-        self.carry_all(&acts[0..done])?;
-        self.stop(cut.lost);
-        Ok(done)
     }
 
     // The node from its file, which is cut back to its last whole record.
     pub(crate) fn start(&mut self, heap: Global, terms: Terms) -> Result<(), Trouble> {
-        let replayed = replay(heap, terms, self.file.as_slice())?;
-        let whole = replayed.whole;
-        self.node = replayed.node;
+        let Replayed { node, whole, .. } = replay(heap, terms, self.file.as_slice())?;
+        self.node = node;
         self.file.truncate(whole);
         self.synced = self.file.len();
         self.running = true;

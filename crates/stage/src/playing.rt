@@ -1,37 +1,28 @@
 // The lines of a script, one by one.
+use crate::others::payment;
 use crate::player::Cut;
-use crate::types::Trouble;
+use crate::types::{Answer, Trouble};
 use crate::world::World;
 use change::Change;
 use rules::Call;
-use script::{Command, Promised};
-use sheet::Payment;
+use script::{Command, Step};
 use small_keys::lock_of;
 
-fn as_u32(number: usize) -> u32 {
-    (number & 0xffff) as u32
-}
-
 impl World {
-    fn pass(
+    // What the owner of a node asks for its account with another.
+    fn ask_about<F: FnOnce(u32) -> Call>(
         &mut self,
         node: usize,
-        from: usize,
-        to: usize,
-        promised: Promised,
+        other: usize,
+        call: F,
         command: Command,
-    ) -> Result<(), Trouble> {
-        let payment = Payment {
-            lock: lock_of(promised.key),
-            amount: promised.amount,
-            end: promised.end,
-        };
-        let call = Call::Pass {
-            from: as_u32(self.number_of(node, from)),
-            to: as_u32(self.number_of(node, to)),
-            payment,
-        };
-        self.ask(node, call, command)
+    ) -> Result<(), Trouble>
+        requires { F.IsAlwaysCallable call }
+    {
+        match self.number_of(node, other) {
+            Some(account) => self.ask(node, call(u32::from(account)), command),
+            None => Ok(()),
+        }
     }
 
     // What an owner asks of its node.
@@ -42,35 +33,47 @@ impl World {
                 from,
                 to,
                 promised,
-            } => self.pass(node, from, to, promised, command),
+            } => match self.number_of(node, from) {
+                Some(number) => {
+                    let from = u32::from(number);
+                    let payment = payment(promised);
+                    self.ask_about(node, to, |to| Call::Pass { from, to, payment }, command)
+                }
+                None => Ok(()),
+            },
             Command::Pays { node, to, key } => {
-                let account = as_u32(self.number_of(node, to));
                 let lock = lock_of(key);
-                self.ask(node, Call::Pay { account, lock }, command)
+                self.ask_about(node, to, |account| Call::Pay { account, lock }, command)
             }
             Command::Gets { node, from, key } => {
-                let account = as_u32(self.number_of(node, from));
                 let lock = lock_of(key);
-                self.ask(node, Call::Get { account, lock }, command)
+                self.ask_about(node, from, |account| Call::Get { account, lock }, command)
             }
             Command::GivesUp { node, from, key } => {
-                let account = as_u32(self.number_of(node, from));
                 let lock = lock_of(key);
-                self.ask(node, Call::GiveUp { account, lock }, command)
+                self.ask_about(
+                    node,
+                    from,
+                    |account| Call::GiveUp { account, lock },
+                    command,
+                )
             }
             _ => self.play_turn(command),
         }
     }
 
     // What another does.
-    pub(crate) fn play(&mut self, command: Command) -> Result<(), Trouble> {
+    fn play(&mut self, command: Command) -> Result<(), Trouble> {
         match command {
             Command::Offers {
                 from,
                 to,
                 promised,
                 signed,
-            } => self.offer(from, to, promised, signed, command),
+            } => {
+                let payment = payment(promised);
+                self.propose(from, to, Change::PassingOn, payment, signed, command)
+            }
             Command::Returns {
                 from,
                 to,
@@ -110,12 +113,23 @@ impl World {
             }
             Command::Starts { node } => self.start(node, command),
             Command::Arrivals { at_once } => {
-                self.at_once = at_once;
-                self.played(command)
+                self.scene.at_once = at_once;
+                self.played(command, Answer::Taken)
             }
             Command::Tick { tick } => self.go_to(tick),
             Command::Show => self.show_all(),
             _ => Ok(()),
+        }
+    }
+
+    // A line of the script.
+    pub(crate) fn play_step(&mut self, step: &Step) -> Result<(), Trouble> {
+        self.scene.progress.line = step.line;
+        match (step.command, &step.raw) {
+            (Command::Sends { from, to }, Some(raw)) => {
+                self.send_raw(from, to, raw.as_slice(), step.command)
+            }
+            (command, _) => self.play(command),
         }
     }
 }

@@ -1,5 +1,5 @@
 // Messages as bytes, for what no honest program would send.
-use crate::types::{Answer, Happening, Trouble};
+use crate::types::{Answer, Trouble};
 use crate::world::World;
 use refusal::Refusal;
 use request_told::{Request, read_request};
@@ -9,18 +9,15 @@ use script::Command;
 impl World {
     // The message that words of hexadecimal digits write, read as the node program reads its lines.
     fn message_in(&self, raw: &[u8]) -> Result<Result<Message, Refusal>, Trouble> {
-        let mut line = Vec::new(self.heap);
+        let mut line = Vec::new(self.scene.heap);
         line.extend_from_slice(b"0 ")?;
         line.extend_from_slice(raw)?;
         line.push(b'\n')?;
-        let request = match read_request(self.heap, line.as_slice())? {
-            Ok(request) => request,
-            Err(refusal) => return Ok(Err(refusal)),
-        };
-        match request {
-            Request::Message(_, message) => Ok(Ok(message)),
-            _ => Ok(Err(Refusal::Unreadable)),
-        }
+        let request = read_request(self.scene.heap, line.as_slice())?;
+        Ok(request.and_then(|request| match request {
+            Request::Message(_, message) => Ok(message),
+            _ => Err(Refusal::Unreadable),
+        }))
     }
 
     pub(crate) fn send_raw(
@@ -31,14 +28,8 @@ impl World {
         command: Command,
     ) -> Result<(), Trouble> {
         match self.message_in(raw)? {
-            Ok(message) => {
-                let account = self.number_of(to, from);
-                self.told(to, account, message, command)
-            }
-            Err(refusal) => self.note(Happening::Played {
-                command,
-                answer: Answer::Refused(refusal),
-            }),
+            Ok(message) => self.told_by(from, to, message, command),
+            Err(refusal) => self.played(command, Answer::Refused(refusal)),
         }
     }
 }

@@ -1,96 +1,80 @@
 // Time: what happens at each tick by itself.
+use crate::player::Player;
 use crate::types::{Happening, Trouble};
-use crate::world::World;
+use crate::world::{Scene, World};
 use schedule::{is_due, is_missed};
 
-impl World {
+impl Scene {
     // In the register, disputes whose time is over have ended.
-    fn turn_account(&mut self, account: usize) -> Result<(), Trouble> {
-        let tick = self.tick;
-        let ended = match self.accounts.get_mut(account) {
-            Some(joint) => joint.turn_to(tick),
-            None => None,
-        };
-        match ended {
-            Some(number) => self.note(Happening::Ended { account, number }),
-            None => Ok(()),
-        }
-    }
-
     fn turn_accounts(&mut self) -> Result<(), Trouble> {
-        for account in 0..self.accounts.len() {
-            self.turn_account(account)?;
+        for joint in self.accounts.iter_mut() {
+            joint.turn(&mut self.progress)?;
         }
         Ok(())
     }
 
-    // The party of a player who looks now by itself.
-    fn looking_now(&self, player: usize) -> Option<usize> {
-        let found = self.players.get(player)?;
-        let by_itself = found.running && found.by_hand_until <= u64::from(self.tick);
-        if by_itself && is_due(found.looked, self.terms.look, self.tick) {
-            return Some(found.party);
+    // All that is due at this tick comes into the register.
+    fn due_comes(&mut self) -> Result<(), Trouble> {
+        let tick = u64::from(self.progress.tick);
+        for arrival in self.arrivals.iter() {
+            if arrival.due <= tick {
+                if let Some(joint) = self.accounts.get_mut(arrival.account) {
+                    joint.item_comes(&mut self.progress, self.terms, arrival.item)?;
+                }
+            }
         }
-        None
+        self.arrivals.retain(|arrival| arrival.due > tick);
+        Ok(())
     }
 
-    fn look_if_due(&mut self, player: usize) -> Result<(), Trouble> {
-        match self.looking_now(player) {
-            Some(party) => self.looks_itself(party),
-            None => Ok(()),
+    fn look_if_due(&mut self, player: &mut Player) -> Result<(), Trouble> {
+        let tick = self.progress.tick;
+        let is_due = is_due(player.looked, self.terms.look, tick);
+        if player.running && player.looks_by_itself(tick) && is_due {
+            self.looks_itself(player)?;
         }
+        Ok(())
     }
 
-    // What a player who has missed a look is told as, once.
-    fn missing(&mut self, player: usize) -> Option<Happening> {
-        let look = self.terms.look;
-        let tick = self.tick;
-        let found = self.players.get_mut(player)?;
-        if found.missed || !is_missed(found.looked, look, tick) {
-            return None;
+    // That a node has missed a look is told once.
+    fn note_if_missed(&mut self, player: &mut Player) -> Result<(), Trouble> {
+        let is_missed = is_missed(player.looked, self.terms.look, self.progress.tick);
+        if player.missed || !is_missed {
+            return Ok(());
         }
-        found.missed = true;
-        Some(Happening::Missed {
-            node: found.party,
-            last: found.looked,
+        player.missed = true;
+        self.progress.note(Happening::Missed {
+            node: player.party,
+            last: player.looked,
         })
     }
+}
 
-    fn note_if_missed(&mut self, player: usize) -> Result<(), Trouble> {
-        match self.missing(player) {
-            Some(what) => self.note(what),
-            None => Ok(()),
-        }
-    }
-
+impl World {
     // One tick more: disputes end, what is due comes into the register, and the nodes look whose time it is.
-    fn next_tick(&mut self) -> Result<(), Trouble> {
-        self.tick = self.tick.saturating_add(1);
-        self.turn_accounts()?;
-        self.due_comes()?;
-        for player in 0..self.players.len() {
-            self.note_if_missed(player)?;
-            self.look_if_due(player)?;
+    fn turn_to(&mut self, tick: u32) -> Result<(), Trouble> {
+        self.scene.progress.tick = tick;
+        self.scene.turn_accounts()?;
+        self.scene.due_comes()?;
+        for player in self.players.iter_mut() {
+            self.scene.note_if_missed(player)?;
+            self.scene.look_if_due(player)?;
         }
         Ok(())
     }
 
     // Time goes on to a tick.
     pub(crate) fn go_to(&mut self, tick: u32) -> Result<(), Trouble> {
-        for _turn in self.tick..tick {
-            self.next_tick()?;
+        for next in (self.scene.progress.tick..=tick).skip(1) {
+            self.turn_to(next)?;
         }
         Ok(())
     }
 
     // At the beginning each node looks.
     pub(crate) fn first_looks(&mut self) -> Result<(), Trouble> {
-        for player in 0..self.players.len() {
-            let party = match self.players.get(player) {
-                Some(found) => found.party,
-                None => return Ok(()),
-            };
-            self.looks_itself(party)?;
+        for player in self.players.iter_mut() {
+            self.scene.looks_itself(player)?;
         }
         Ok(())
     }

@@ -3,6 +3,20 @@ use crate::types::Trouble;
 use outcome::Fault;
 use replay::StartFault;
 use std::alloc::{AllocError, AllocFailed};
+use std::error::Error;
+use std::fmt;
+
+impl fmt::Display for Trouble {
+    fn fmt<W: fmt::Write>(&self, f: &mut fmt::Formatter<W>) -> fmt::Result {
+        match *self {
+            Trouble::Memory => write!(f, "out of memory"),
+            Trouble::Failed => write!(f, "an act failed"),
+            Trouble::Damaged => write!(f, "a node could not be started from its records"),
+        }
+    }
+}
+
+impl Error for Trouble {}
 
 impl From<AllocError> for Trouble {
     fn from(_error: AllocError) -> Trouble {

@@ -1,16 +1,12 @@
 // How nodes look, stop and start.
 use crate::player::Cut;
 use crate::types::{Answer, Happening, Trouble};
-use crate::world::World;
-use account::{Account, Next};
+use crate::world::{World, player_in};
 use script::Command;
 
 impl World {
-    pub(crate) fn played(&mut self, command: Command) -> Result<(), Trouble> {
-        self.note(Happening::Played {
-            command,
-            answer: Answer::Taken,
-        })
+    pub(crate) fn played(&mut self, command: Command, answer: Answer) -> Result<(), Trouble> {
+        self.note(Happening::Played { command, answer })
     }
 
     // Before this tick the node looks only where the script says so.
@@ -20,12 +16,10 @@ impl World {
         until: u64,
         command: Command,
     ) -> Result<(), Trouble> {
-        if let Some(i) = self.player_of(node) {
-            if let Some(player) = self.players.get_mut(i) {
-                player.by_hand_until = until;
-            }
+        if let Some(player) = self.player_mut(node) {
+            player.by_hand_until = until;
         }
-        self.played(command)
+        self.played(command, Answer::Taken)
     }
 
     // In its next entry the node stops after some acts.
@@ -35,80 +29,38 @@ impl World {
         cut: Cut,
         command: Command,
     ) -> Result<(), Trouble> {
-        if let Some(i) = self.player_of(node) {
-            if let Some(player) = self.players.get_mut(i) {
-                player.cut = Some(cut);
-            }
+        if let Some(player) = self.player_mut(node) {
+            player.cut = Some(cut);
         }
-        self.played(command)
+        self.played(command, Answer::Taken)
     }
 
     pub(crate) fn stop(&mut self, node: usize, command: Command) -> Result<(), Trouble> {
-        if let Some(i) = self.player_of(node) {
-            if let Some(player) = self.players.get_mut(i) {
-                player.stop(false);
-            }
+        if let Some(player) = self.player_mut(node) {
+            player.stop(false);
         }
-        self.played(command)?;
+        self.played(command, Answer::Taken)?;
         self.note(Happening::Stopped { node })
     }
 
-    // The node comes up from its file.
+    // The node comes up from its file, sends again, and looks unless the script keeps it from that.
     fn come_up(&mut self, node: usize) -> Result<(), Trouble> {
-        let heap = self.heap;
-        let terms = self.terms;
-        if let Some(i) = self.player_of(node) {
-            if let Some(player) = self.players.get_mut(i) {
-                player.start(heap, terms)?;
-            }
-        }
-        Ok(())
-    }
-
-    fn account_at(&self, node: usize, number: usize) -> Option<Account> {
-        let i = self.player_of(node)?;
-        let player = self.players.get(i)?;
-        if number >= player.node.many() {
-            return None;
-        }
-        Some(player.node.account(number))
-    }
-
-    // What may not have got out of an account is sent again.
-    fn send_again(&mut self, node: usize, number: usize) -> Result<(), Trouble> {
-        let Some(account) = self.account_at(node, number) else {
+        let Some(player) = player_in(self.players.as_mut_slice(), node) else {
             return Ok(());
         };
-        if account.held.number > 0 {
-            self.send_sheet(node, number, account.held)?;
-        }
-        if let Next::Sent = account.next {
-            self.send_sheet(node, number, account.next_sheet)?;
+        player.start(self.scene.heap, self.scene.terms)?;
+        self.scene.progress.note(Happening::Started { node })?;
+        self.scene.send_again(player)?;
+        if player.looks_by_itself(self.scene.progress.tick) {
+            self.scene.looks_itself(player)?;
         }
         Ok(())
     }
 
-    fn looks_by_itself(&self, node: usize) -> bool {
-        let Some(i) = self.player_of(node) else {
-            return false;
-        };
-        match self.players.get(i) {
-            Some(player) => player.by_hand_until <= u64::from(self.tick),
-            None => false,
-        }
-    }
-
-    // The node starts: it sends again, looks unless the script keeps it from that, and messages go on.
+    // The node starts, and messages go on.
     pub(crate) fn start(&mut self, node: usize, command: Command) -> Result<(), Trouble> {
-        self.played(command)?;
+        self.played(command, Answer::Taken)?;
         self.come_up(node)?;
-        self.note(Happening::Started { node })?;
-        for number in 0..16 {
-            self.send_again(node, number)?;
-        }
-        if self.looks_by_itself(node) {
-            self.looks_itself(node)?;
-        }
         self.deliver_all()
     }
 }

@@ -15,6 +15,15 @@ pub enum Answer {
     NoSheet,
 }
 
+impl From<Result<(), Refusal>> for Answer {
+    fn from(answer: Result<(), Refusal>) -> Answer {
+        match answer {
+            Ok(()) => Answer::Taken,
+            Err(refusal) => Answer::Refused(refusal),
+        }
+    }
+}
+
 // A message of a node, by what it has in it.
 #[derive(Clone, Copy)]
 pub enum Letter {
@@ -29,6 +38,16 @@ pub enum Ending {
     ByDispute { paid: u64 },
     ByAgreement { paid: u64 },
     NotSettled,
+}
+
+impl Ending {
+    // What the node got, where the account was ended.
+    pub(crate) fn paid(self) -> Option<u64> {
+        match self {
+            Ending::ByDispute { paid } | Ending::ByAgreement { paid } => Some(paid),
+            Ending::NotSettled => None,
+        }
+    }
 }
 
 // Parties and accounts go by their numbers in the script.
@@ -133,11 +152,11 @@ pub enum Happening {
         put_in: u32,
         ending: Ending,
     },
+    // without `came_out` not all of it is settled
     Total {
         node: usize,
         put_in: u64,
-        came_out: u64,
-        settled: bool,
+        came_out: Option<u64>,
     },
 }
 
@@ -150,7 +169,7 @@ pub struct Event {
 }
 
 // Why a rehearsal could not go on: memory ran out, an act failed, or a node could not be started from its records.
-#[derive(Clone, Copy)]
+#[derive(Clone, Copy, Debug)]
 pub enum Trouble {
     Memory,
     Failed,

@@ -1,18 +1,10 @@
 // Everybody and everything in a rehearsal.
-use crate::joint::Joint;
+use crate::joint::{Item, Joint};
 use crate::player::Player;
-use crate::types::{Event, Happening, Letter, Trouble};
+use crate::progress::Progress;
+use crate::types::{Happening, Trouble};
 use node_state::Terms;
-use rules::Message;
-use sheet::Sheet;
 use std::alloc::Global;
-
-// What is on its way to the register.
-#[derive(Clone, Copy)]
-pub(crate) enum Item {
-    Sheet(Sheet),
-    Key([u8; 32]),
-}
 
 // Something that a node sent to the register for an account, and the tick at which it comes in.
 #[derive(Clone, Copy)]
@@ -22,81 +14,64 @@ pub(crate) struct Arrival {
     pub(crate) item: Item,
 }
 
-// A message of a node that goes to another node.
-#[derive(Clone, Copy)]
-pub(crate) struct Delivery {
-    pub(crate) from: usize,
-    pub(crate) to: usize,
-    pub(crate) account: usize,
-    pub(crate) letter: Letter,
-    pub(crate) message: Message,
+// All but the nodes. `at_once` says that what nodes send to the register comes in at once, and not as late as it may.
+#[derive(Drop)]
+pub(crate) struct Scene {
+    pub(crate) heap: Global,
+    pub(crate) terms: Terms,
+    pub(crate) at_once: bool,
+    pub(crate) accounts: Vec<Joint>,
+    pub(crate) arrivals: Vec<Arrival>,
+    pub(crate) progress: Progress,
 }
 
 #[derive(Drop)]
 pub(crate) struct World {
-    pub(crate) heap: Global,
-    pub(crate) terms: Terms,
-    pub(crate) tick: u32,
-    pub(crate) line: u32,
-    pub(crate) at_once: bool,
     pub(crate) players: Vec<Player>,
-    pub(crate) accounts: Vec<Joint>,
-    pub(crate) arrivals: Vec<Arrival>,
-    pub(crate) deliveries: Vec<Delivery>,
-    pub(crate) events: Vec<Event>,
+    pub(crate) scene: Scene,
+}
+
+// The node of a party.
+pub(crate) fn player_in(players: &mut [Player], party: usize) -> Option<&mut Player> {
+    players.iter_mut().find(|player| player.party == party)
+}
+
+// The account that a party knows by a number.
+pub(crate) fn numbered(accounts: &mut [Joint], party: usize, number: usize) -> Option<&mut Joint> {
+    accounts.iter_mut().find(|joint| match joint.number_for(party) {
+        Some(own) => usize::from(own) == number,
+        None => false,
+    })
 }
 
 impl World {
     pub(crate) fn note(&mut self, what: Happening) -> Result<(), Trouble> {
-        self.events.push(Event {
-            tick: self.tick,
-            line: self.line,
-            what,
-        })?;
-        Ok(())
+        self.scene.progress.note(what)
     }
 
-    // Where the node of a party is among the players.
-    pub(crate) fn player_of(&self, party: usize) -> Option<usize> {
-        for (i, player) in self.players.iter().enumerate() {
-            if player.party == party {
-                return Some(i);
-            }
-        }
-        None
+    // The node of a party.
+    pub(crate) fn player(&self, party: usize) -> Option<&Player> {
+        self.players.iter().find(|player| player.party == party)
+    }
+
+    pub(crate) fn player_mut(&mut self, party: usize) -> Option<&mut Player> {
+        player_in(self.players.as_mut_slice(), party)
     }
 
     // The account of two parties.
-    pub(crate) fn account_of(&self, a: usize, b: usize) -> Option<usize> {
-        for (i, account) in self.accounts.iter().enumerate() {
-            if account.is_between(a, b) {
-                return Some(i);
-            }
-        }
-        None
+    pub(crate) fn account_of(&mut self, a: usize, b: usize) -> Option<&mut Joint> {
+        self.scene
+            .accounts
+            .iter_mut()
+            .find(|joint| joint.is_between(a, b))
     }
 
-    // The account that a party knows by a number.
-    pub(crate) fn account_numbered(&self, party: usize, number: usize) -> Option<usize> {
-        for (i, account) in self.accounts.iter().enumerate() {
-            if let Some(own) = account.number_for(party) {
-                if own == number {
-                    return Some(i);
-                }
-            }
-        }
-        None
-    }
-
-    // A party's own number for its account with another; a number that is no account's where there is none.
-    pub(crate) fn number_of(&self, party: usize, other: usize) -> usize {
-        for account in self.accounts.iter() {
-            if account.is_between(party, other) {
-                if let Some(number) = account.number_for(party) {
-                    return number;
-                }
-            }
-        }
-        16
+    // A party's own number for its account with another.
+    pub(crate) fn number_of(&self, party: usize, other: usize) -> Option<u8> {
+        self.scene
+            .accounts
+            .iter()
+            .find(|joint| joint.is_between(party, other))?
+            .number_for(party)
     }
 }
