@@ -1,5 +1,5 @@
 -- What a look at a tick does to the clock of each account. Assumes nothing.
-use Rattle.std.specs.Prelude.{ℕ, Bool, false, cond, ◌||◌, List, [], ◌∷◌, map, Some, None, Ok, Err, Option, Result, nat_lt}
+use Rattle.std.specs.Prelude.{ℕ, ◌+◌, Bool, false, cond, ◌||◌, List, [], ◌∷◌, map, Some, None, Ok, Err, Option, Result, nat_lt}
 use Rattle.refusal.specs.declared.Refusal.{Refusal}
 use Rattle.refusal.specs.declared.Refusal.TheVariants.{Unreadable}
 use Rattle.account.specs.Accounts.{Standing}
@@ -8,6 +8,11 @@ use Rattle.node_state.specs.Nodes.{NodeState, with_accounts}
 -- The account has been looked at, at this tick.
 abbrev pub looked_at : ℕ → Standing → Standing
 looked_at tick a = record { held = a.held; next = a.next; looked = Some tick; disputed = a.disputed; sent = a.sent }
+
+-- Each account with its number, from i up, changed in one way.
+abbrev pub each_from : (ℕ → Standing → Standing) → ℕ → List Standing → List Standing
+each_from f i [] = []
+each_from f i (a ∷ others) = f i a ∷ each_from f (i + 1) others
 
 -- The last look was later than the tick.
 abbrev pub is_later : Option ℕ → ℕ → Bool

@@ -2,10 +2,11 @@
 // Promises: a look sets the clock of every account, and one at an earlier tick is refused (specs/Clocks.antt). Leans on node_state.
 #![tactic(auto)]
 
-ghost use Rattle.std.specs.Prelude.{◌≡◌, map, Result};
-ghost use Rattle.account.specs.Accounts.{standing_of};
+ghost use Rattle.std.specs.Prelude.{◌≡◌, ℕ, map, Result};
+ghost use Rattle.account.specs.declared.types.Account.{Account};
+ghost use Rattle.account.specs.Accounts.{Standing, standing_of};
 ghost use Rattle.node_state.specs.Nodes.{NodeState, state_of, with_accounts};
-ghost use Rattle.clock.specs.Clocks.{looked_at, is_later, any_later, ticked};
+ghost use Rattle.clock.specs.Clocks.{each_from, looked_at, is_later, any_later, ticked};
 
 use account::Account;
 use node_state::Node;
@@ -37,13 +38,22 @@ pub fn any_later(node: &Node, tick: u32) -> bool
         .any(|account| is_later(account, tick))
 }
 
+// Each account is changed, by its number.
+pub fn change_each<F: Fn(usize, Account) -> Account>(node: &mut Node, change: F)
+    requires { F.IsAlwaysCallable change }
+    ensures { (meaning : ℕ → Standing → Standing) → ((i : ℕ) (a b : Account) → F.post change i a b → standing_of b ≡ meaning i (standing_of a)) → state_of node.new ≡ with_accounts (state_of node.old) (each_from meaning 0 (state_of node.old).accounts) }
+{
+    // by number, since only `put` changes an account
+    for i in 0..node.many() {
+        let after = change(i, node.account(i));
+        node.put(i, after);
+    }
+}
+
 fn look_at_all(node: &mut Node, tick: u32)
     ensures { state_of node.new ≡ with_accounts (state_of node.old) (map (looked_at tick) (state_of node.old).accounts) }
 {
-    for i in 0..node.many() {
-        let after = looked(node.account(i), tick);
-        node.put(i, after);
-    }
+    change_each(node, |_, account| looked(account, tick));
 }
 
 // A look at a tick sets the clock of every account; one before the last look is refused.

@@ -29,9 +29,6 @@ pub record Left (start all log rest : List Act) : Type 0 where
   pub whole : extended log rest ≡ extended start all
   pub part : (after : List Act) → Begun log rest after → Begun start all after
 
-pub left_all : (start all : List Act) → Left start all start all
-left_all start all = record { whole = refl; part = λ after b. b }
-
 module _ (start all log : List Act) where
   -- a first part of the rest was done
   pub left_less : (xs ys mid : List Act) → Left start all log (xs ++ ys) → mid ≡ extended log xs → Left start all mid ys

@@ -1,6 +1,7 @@
 -- New keys, statement by statement.
 use Rattle.std.proofs.Common.{◌≡◌, ℕ, ◌+◌, ◌<◌, ◌≤◌, Bool, true, false, cond, ◌||◌, List, [], ◌∷◌, ◌++◌, length, get_or, drop, sym, refl, ap, ◌∙◌, subst, inl}
 use Rattle.std.proofs.lemmas.List.{drop_more, at_drop_all}
+use Rattle.std.proofs.Math.Bool.{or_assoc, or-false}
 use Rattle.digest.specs.Sha256.{sha256}
 use Rattle.judgement.specs.Tests.{has_key}
 use Rattle.node_state.specs.Nodes.{NodeState, with_key}
@@ -20,10 +21,6 @@ acted_both (a ∷ others) ys n = acted_both others ys (acted_on a n)
 some_both : (xs ys : List Act) → is_something (xs ++ ys) ≡ (is_something xs || is_something ys)
 some_both [] ys = refl
 some_both (a ∷ others) ys = refl
-
-or_joined : (a b c : Bool) → ((a || b) || c) ≡ (a || (b || c))
-or_joined true b c = refl
-or_joined false b c = refl
 
 -- The acts of one statement, and those of the others on the node as it is then.
 key_first : (n : NodeState) (key : List ℕ) (others : List Shown) (has : Bool) → cond has (new_keys n others) (recorded (key_is key) ∷ new_keys (with_key n (sha256 key) key) others) ≡ cond has [] (recorded (key_is key) ∷ []) ++ new_keys (acted_all (cond has [] (recorded (key_is key) ∷ [])) n) others
@@ -61,7 +58,7 @@ module _ (n m p : NodeState) (shown : List Shown) (j : ℕ) (d : Shown) (within 
       pub some_more : (some new : Bool) → new ≡ is_something (new_keys m (get_or shown j d ∷ [])) → (some || is_something (new_keys m (drop j shown))) ≡ is_something (new_keys n shown) → ((some || new) || is_something (new_keys p (drop (j + 1) shown))) ≡ is_something (new_keys n shown)
       some_more some new e inv =
           ap (λ x. (some || new) || is_something (new_keys x (drop (j + 1) shown))) became
-          ∙ or_joined some new _
+          ∙ or_assoc some new _
           ∙ ap (λ x. some || (x || is_something (new_keys (acted_all (new_keys m (get_or shown j d ∷ [])) m) (drop (j + 1) shown)))) e
           ∙ sym (ap (λ x. some || x) (ap is_something parts ∙ some_both (new_keys m (get_or shown j d ∷ [])) (new_keys (acted_all (new_keys m (get_or shown j d ∷ [])) m) (drop (j + 1) shown))))
           ∙ inv
@@ -74,11 +71,7 @@ module _ (n m : NodeState) (shown : List Shown) (j : ℕ) (past : length shown �
   state_done inv = sym (at_drop_all (λ x. acted_all (new_keys m x) m) shown j past) ∙ inv
 
   pub some_done : (some : Bool) → (some || is_something (new_keys m (drop j shown))) ≡ is_something (new_keys n shown) → some ≡ is_something (new_keys n shown)
-  some_done some inv = or_none some ∙ sym (at_drop_all (λ x. some || is_something (new_keys m x)) shown j past) ∙ inv
-    where
-      or_none : (b : Bool) → b ≡ (b || false)
-      or_none true = refl
-      or_none false = refl
+  some_done some inv = sym (or-false some) ∙ sym (at_drop_all (λ x. some || is_something (new_keys m x)) shown j past) ∙ inv
 
 -- Synced where there is something.
 pub synced_is : (keys : List Act) → then_synced keys ≡ keys ++ cond (is_something keys) (synced ∷ []) []

@@ -5,7 +5,7 @@ ghost use Rattle.looking.specs.Looking.{is_earlier, looked_of, each_from};
 
 use crate::at::LookAt;
 use crate::types::Shown;
-use clock::any_later;
+use clock::{any_later, change_each};
 use node_state::Node;
 
 pub(crate) fn is_earlier(node: &Node, tick: u32) -> bool
@@ -19,14 +19,13 @@ pub(crate) fn note_look(node: &mut Node, tick: u32, shown: &[Shown])
     ensures { state_of node.new ≡ with_accounts (state_of node.old) (each_from (looked_of (state_of node.old).terms.delay tick shown.now) 0 (state_of node.old).accounts) }
 {
     let delay = node.terms().delay;
-    // by number, since an account is changed by `put`
-    for i in 0..node.many() {
+    change_each(node, |i, account| {
         let look = LookAt {
             i,
             tick,
             delay,
             shown,
         };
-        node.put(i, look.looked(node.account(i)));
-    }
+        look.looked(account)
+    });
 }

@@ -1,8 +1,9 @@
 // The owner's calls, one by one.
 ghost use Rattle.std.specs.Prelude.{◌≡◌};
 ghost use Rattle.node_state.specs.Nodes.{state_of};
-ghost use Rattle.outcome.specs.Outcomes.{CarriedOut};
-ghost use Rattle.rules.specs.Entries.{paid, got, given_up, passed};
+ghost use Rattle.judgement.specs.Judgements.{to_settle};
+ghost use Rattle.outcome.specs.Outcomes.{CarriedOut, signing};
+ghost use Rattle.rules.specs.Entries.{given_up, passed};
 
 use change::Change;
 use judgement::{to_give_up, to_pass, to_settle};
@@ -11,29 +12,17 @@ use outcome::{Fault, Outside, pass_on, sign};
 use refusal::Refusal;
 use sheet::Payment;
 
-// Paying the out with the lock.
-pub(crate) fn pay<O: Outside>(
+// Paying the out, or getting the in, with the lock.
+pub(crate) fn settle<O: Outside>(
     node: &mut Node,
     outside: &mut O,
     i: usize,
+    change: Change,
     lock: &[u8; 32],
 ) -> Result<Result<(), Refusal>, Fault>
-    ensures { CarriedOut (paid (state_of node.old) i lock.now) (state_of node.old) (O.log outside.old) result (state_of node.new) (O.log outside.new) }
+    ensures { CarriedOut (signing i (to_settle (state_of node.old) i change lock.now)) (state_of node.old) (O.log outside.old) result (state_of node.new) (O.log outside.new) }
 {
-    let next = to_settle(node, i, Change::Paying, lock);
-    sign(node, outside, i, next)
-}
-
-// Getting the in with the lock.
-pub(crate) fn get<O: Outside>(
-    node: &mut Node,
-    outside: &mut O,
-    i: usize,
-    lock: &[u8; 32],
-) -> Result<Result<(), Refusal>, Fault>
-    ensures { CarriedOut (got (state_of node.old) i lock.now) (state_of node.old) (O.log outside.old) result (state_of node.new) (O.log outside.new) }
-{
-    let next = to_settle(node, i, Change::Getting, lock);
+    let next = to_settle(node, i, change, lock);
     sign(node, outside, i, next)
 }
 

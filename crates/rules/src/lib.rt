@@ -9,6 +9,7 @@ ghost use Rattle.outcome.specs.Outcomes.{CarriedOut};
 ghost use Rattle.rules.specs.Entries.{message_of, call_of};
 ghost use Rattle.rules.specs.Order.{MessagesRecordedFirst, CallsRecordedFirst};
 
+use change::Change;
 use node_state::Node;
 use outcome::{Fault, Outside};
 use refusal::Refusal;
@@ -51,8 +52,12 @@ pub fn call<O: Outside>(
         Call::Pass { from, to, payment } => {
             calls::pass(node, outside, from as usize, to as usize, payment)
         }
-        Call::Pay { account, lock } => calls::pay(node, outside, account as usize, &lock),
-        Call::Get { account, lock } => calls::get(node, outside, account as usize, &lock),
+        Call::Pay { account, lock } => {
+            calls::settle(node, outside, account as usize, Change::Paying, &lock)
+        }
+        Call::Get { account, lock } => {
+            calls::settle(node, outside, account as usize, Change::Getting, &lock)
+        }
         Call::GiveUp { account, lock } => calls::give_up(node, outside, account as usize, &lock),
     }
 }
