@@ -3,7 +3,6 @@ ghost use Rattle.std.specs.Prelude.{◌≡◌};
 ghost use Rattle.sheet.specs.Contents.{content_of};
 ghost use Rattle.proposal.specs.Proposals.{adds_in, offer_of};
 
-use crate::same::same_payments;
 use crate::types::Proposal;
 use change::Change;
 use sheet::{Payment, Sheet};
@@ -13,13 +12,12 @@ use sheet::{Payment, Sheet};
 fn adds_in(held: &Sheet, proposed: &Sheet, payment: &Payment, others: &[Payment]) -> bool
     ensures { result ≡ adds_in (content_of held.now) (content_of proposed.now) payment.now others.now }
 {
-    let theirs = held.theirs < payment.amount || proposed.theirs == held.theirs - payment.amount;
-    same_payments(others, held.ins())
-        & same_payments(proposed.outs(), held.outs())
-        & (proposed.own == held.own)
-        & (proposed.account == held.account)
-        & (u64::from(proposed.number) == u64::from(held.number) + 1)
-        & theirs
+    others == held.ins()
+        && proposed.outs() == held.outs()
+        && proposed.own == held.own
+        && proposed.account == held.account
+        && u64::from(proposed.number) == u64::from(held.number) + 1
+        && (held.theirs < payment.amount || proposed.theirs == held.theirs - payment.amount)
 }
 
 // An offer of the first of the proposed ins.

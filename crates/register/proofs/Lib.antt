@@ -1,4 +1,2 @@
-mod Amounts
 mod Laws
 mod Searches
-mod Showings

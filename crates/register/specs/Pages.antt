@@ -1,6 +1,5 @@
 -- What a page of the code means: a page of the rules. Assumes nothing.
-use Rattle.std.specs.Prelude.{◌≡◌, ℕ, Bool, cond, not, List, [], ◌∷◌, ◌++◌, map, vec_items}
-use Rattle.sheet.specs.declared.types.Payment.{Payment}
+use Rattle.std.specs.Prelude.{◌≡◌, ℕ, Bool, cond, List, [], ◌∷◌, ◌++◌, map, vec_items}
 use Rattle.sheet.specs.Contents.{Content, content_of}
 use Rattle.register.specs.Register as rules
 use Rattle.register.specs.Register.{quiet, disputed, ended, with_key_at, shown_in_time, payout_of}
@@ -27,10 +26,6 @@ page_of p = record { phase = phase_of p.phase; keys = keys_of (vec_items p.keys)
 -- Was this key shown before: said by what becomes of the keys where it is shown once more.
 abbrev pub Known : Bool → List ℕ → List rules.KeyAt → Type 0
 Known known key ks = (tick : ℕ) → with_key_at tick key ks ≡ cond known ks (ks ++ record { key = key; tick = tick } ∷ [])
-
--- Was the key of a payment shown in time, where it is asked whether it was; or was it not, where that is asked.
-abbrev pub shown_is : Bool → (last : ℕ) → List rules.KeyAt → Payment → Bool
-shown_is shown last keys p = cond shown (shown_in_time last p keys) (not (shown_in_time last p keys))
 
 -- The payout of every phase that is this one: the sheet counts since `until`.
 abbrev pub PaidAs : Content → (until delay : ℕ) → List rules.KeyAt → ℕ → Type 0

@@ -3,19 +3,13 @@ ghost use Rattle.std.specs.Prelude.{◌≡◌, [], ◌∷◌, ◌++◌, is_ok, i
 ghost use Rattle.register.specs.Pages.{key_at_of, keys_of, Known};
 
 use crate::types::KeyAt;
-use sheet::same_lock;
 use std::alloc::AllocError;
 
 // Was the key shown before.
 pub(crate) fn is_known(keys: &[KeyAt], key: &[u8; 32]) -> bool
     ensures { Known result key.now (keys_of keys.now) }
 {
-    for k in keys {
-        if same_lock(&k.key, key) {
-            return true;
-        }
-    }
-    false
+    keys.iter().any(|k| k.key == *key)
 }
 
 // One key more, which is the last. Nothing changes where memory runs out.

@@ -1,55 +1,49 @@
 // What the node gets of an account whose dispute has ended, and whether that can still change.
-ghost use Rattle.std.specs.Prelude.{◌≡◌, ◌*◌, ◌^◌, ◌<◌, ◌≤◌, true, ◌&&◌, ◌||◌, length, if◌then◌else◌, nat_le, nat_lt};
+ghost use Rattle.std.specs.Prelude.{◌≡◌, ◌+◌, ◌*◌, ◌^◌, ◌≤◌, Bool, true, ◌&&◌, ◌||◌, length, nat_le, nat_lt};
 ghost use Rattle.std.specs.Str.{bytes_eq};
 ghost use Rattle.sheet.specs.Contents.{content_of};
 ghost use Rattle.digest.specs.Sha256.{sha256};
 ghost use Rattle.register.specs.Laws.{PayoutStays};
-ghost use Rattle.register.specs.Pages.{page_of, keys_of, shown_is, PaidAs};
+ghost use Rattle.sheet.specs.declared.types.Payment.{Payment};
+ghost use Rattle.register.specs.Pages.{page_of, keys_of, PaidAs};
 ghost use Rattle.register.specs.Register.{shown_in_time, amounts_of, payout_of, all_over, is_settled};
 
 use crate::types::{KeyAt, Page, Phase};
 use digest::lock;
-use sheet::{Payment, Sheet, same_lock};
+use sheet::{Payment, Sheet};
+
+// The last tick at which a key may be shown for whatever payment ends before it.
+fn last_tick(until: u64, delay: u32) -> u128
+    ensures { result ≡ until + delay }
+{
+    u128::from(until) + u128::from(delay)
+}
 
 // Is this the payment's key, shown no later than the payment's end, or than `last`, whichever is later.
 fn opens(k: &KeyAt, p: &Payment, last: u128) -> bool
     ensures { result ≡ (bytes_eq (sha256 k.now.key) p.now.lock && (nat_le k.now.tick p.now.end || nat_le k.now.tick last)) }
 {
-    same_lock(&lock(&k.key), &p.lock) && (k.tick <= p.end || u128::from(k.tick) <= last)
+    lock(&k.key) == p.lock && (k.tick <= p.end || u128::from(k.tick) <= last)
 }
 
 fn shown_in_time(keys: &[KeyAt], p: &Payment, last: u128) -> bool
     ensures { result ≡ shown_in_time last p.now (keys_of keys.now) }
 {
-    for k in keys {
-        if opens(k, p, last) {
-            return true;
-        }
-    }
-    false
+    keys.iter().any(|k| opens(k, p, last))
 }
 
-// The payment's amount if its key was shown in time, where `shown` is true, or if it was not, where it is false.
-fn amount_if(shown: bool, p: &Payment, keys: &[KeyAt], last: u128) -> u64
-    ensures value { result ≡ (if shown_is shown last (keys_of keys.now) p.now then p.now.amount else 0) }
-    ensures bound { result < 2 ^ 32 }
-{
-    if shown_in_time(keys, p, last) == shown {
-        u64::from(p.amount)
-    } else {
-        0
-    }
-}
-
-// The amounts of the payments whose key was shown in time, or of those whose key was not.
-fn amounts_if(shown: bool, list: &[Payment], keys: &[KeyAt], last: u128) -> u64
-    requires { length list.now ≤ 32 }
-    ensures value { result ≡ amounts_of (shown_is shown last (keys_of keys.now)) list.now }
+// The amounts of those payments that pass the test.
+fn amounts_of<F: Fn(&Payment) -> bool>(list: &[Payment], test: F) -> u64
+    requires few { length list.now ≤ 32 }
+    requires callable { F.IsAlwaysCallable test }
+    ensures value { (t : Payment → Bool) → ((p : _) (b : Bool) → F.post test p b → b ≡ t p.now) → result ≡ amounts_of t list.now }
     ensures bound { result ≤ 32 * 2 ^ 32 }
 {
     let mut sum = 0;
     for p in list {
-        sum += amount_if(shown, p, keys, last);
+        if test(p) {
+            sum += u64::from(p.amount);
+        }
     }
     sum
 }
@@ -64,12 +58,7 @@ fn is_over(p: &Payment, last: u128, tick: u32) -> bool
 fn all_over(list: &[Payment], last: u128, tick: u32) -> bool
     ensures { result ≡ all_over last tick list.now }
 {
-    for p in list {
-        if !is_over(p, last, tick) {
-            return false;
-        }
-    }
-    true
+    list.iter().all(|p| is_over(p, last, tick))
 }
 
 impl Page {
@@ -77,9 +66,9 @@ impl Page {
     fn paid_out(&self, sheet: &Sheet, until: u64, delay: u32) -> u64
         ensures { PaidAs (content_of sheet.now) until delay (page_of self.now).keys result }
     {
-        let last = until as u128 + delay as u128;
-        let ins = amounts_if(true, sheet.ins(), &self.keys, last);
-        let outs = amounts_if(false, sheet.outs(), &self.keys, last);
+        let last = last_tick(until, delay);
+        let ins = amounts_of(sheet.ins(), |p| shown_in_time(&self.keys, p, last));
+        let outs = amounts_of(sheet.outs(), |p| !shown_in_time(&self.keys, p, last));
         u64::from(sheet.own) + ins + outs
     }
 
@@ -87,26 +76,23 @@ impl Page {
     pub fn payout(&self, delay: u32) -> u64
         ensures { result ≡ payout_of delay (page_of self.now).keys (page_of self.now).phase }
     {
-        match self.phase {
-            Phase::Quiet => 0,
-            Phase::Disputed { .. } => 0,
-            Phase::Ended { sheet, until } => self.paid_out(&sheet, until, delay),
+        if let Phase::Ended { sheet, until } = self.phase {
+            self.paid_out(&sheet, until, delay)
+        } else {
+            0
         }
     }
 
     fn settled(&self, delay: u32, tick: u32) -> bool
         ensures { result ≡ is_settled delay tick (page_of self.now).phase }
     {
-        match self.phase {
-            Phase::Quiet => false,
-            Phase::Disputed { .. } => false,
-            Phase::Ended { sheet, until } => {
-                let last = until as u128 + delay as u128;
-                until <= u64::from(tick)
-                    && all_over(sheet.ins(), last, tick)
-                    && all_over(sheet.outs(), last, tick)
-            }
-        }
+        let Phase::Ended { sheet, until } = self.phase else {
+            return false;
+        };
+        let last = last_tick(until, delay);
+        until <= u64::from(tick)
+            && all_over(sheet.ins(), last, tick)
+            && all_over(sheet.outs(), last, tick)
     }
 
     // Is the account settled: if so, nothing that is shown at this tick or later changes the payout.

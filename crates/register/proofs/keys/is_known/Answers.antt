@@ -1,13 +1,11 @@
-use Rattle.register.proofs.Showings.{known_here, passed_more, known_nowhere}
+use Rattle.std.proofs.Common.{rules}
+use Rattle.std.proofs.lemmas.Iterator.{YieldsList-from_slice}
+use Rattle.std.proofs.lemmas.Iterator.Search.{any_from_yields_List}
+use borrow.Author.Tests.{tests}
+use Rattle.register.proofs.Searches.{has_key, known_told}
 use Rattle.register.proofs.keys.is_known.Goals as goal
 
-pub returns-then-same_lock : goal.returns-then-same_lock
-returns-then-same_lock c =
-    known_here c.args.key.now c.args.keys.now c.loop-k.k-index _ c.loop-k-test.true c.if-same_lock.ensures c.loop-k.invariant
-
-pub loop-k-preserved : goal.loop-k-preserved
-loop-k-preserved c =
-    passed_more c.args.key.now c.args.keys.now c.loop-k.k-index _ c.loop-k-test.true c.if-same_lock.ensures c.loop-k.invariant
-
 pub returns : goal.returns
-returns c = known_nowhere c.args.key.now c.args.keys.now c.loop-k.k-index c.loop-k-test.false c.loop-k.invariant
+returns c =
+    known_told c.any.result c.args.key.now c.args.keys.now
+    (any_from_yields_List (has_key c.args.key.now) _ _ c.any.result c.any.ensures.ran (YieldsList-from_slice c.args.keys.now cc) (λ x b q k. search (rules, tests)))
