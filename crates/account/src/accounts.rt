@@ -2,7 +2,7 @@
 ghost use Rattle.std.specs.Prelude.{◌≡◌};
 ghost use Rattle.std.specs.Option.{option_map};
 ghost use Rattle.sheet.specs.Contents.{content_of};
-ghost use Rattle.account.specs.Accounts.{standing_of, opened_of, is_frozen, may_sign, signed_of, signature_taken, on_either, on_standing};
+ghost use Rattle.account.specs.Accounts.{standing_of, opened_of, is_frozen, may_sign, signed_of, held_of, signature_taken, on_either, on_standing};
 
 use crate::types::{Account, Next};
 use refusal::Refusal;
@@ -30,6 +30,16 @@ impl Account {
         self.disputed || self.looked.is_none()
     }
 
+    // The next sheet, where one is under way.
+    pub fn under_way(&self) -> Option<&Sheet>
+        ensures { option_map (λ s. content_of s.now) result ≡ (standing_of self.now).next }
+    {
+        match self.next {
+            Next::Sent => Some(&self.next_sheet),
+            Next::Nothing => None,
+        }
+    }
+
     // May the node sign a next here.
     pub fn may_sign(&self) -> Result<(), Refusal>
         ensures { result ≡ may_sign (standing_of self.now) }
@@ -37,9 +47,9 @@ impl Account {
         if self.is_frozen() {
             return Err(Refusal::NotOpen);
         }
-        match self.next {
-            Next::Sent => Err(Refusal::UnderWay),
-            Next::Nothing => Ok(()),
+        match self.under_way() {
+            Some(_) => Err(Refusal::UnderWay),
+            None => Ok(()),
         }
     }
 
@@ -47,10 +57,22 @@ impl Account {
     pub fn signed(self, next: Sheet) -> Account
         ensures { standing_of result ≡ signed_of (standing_of self) (content_of next) }
     {
-        let mut after = self;
-        after.next = Next::Sent;
-        after.next_sheet = next;
-        after
+        Account {
+            next: Next::Sent,
+            next_sheet: next,
+            ..self
+        }
+    }
+
+    // The account with a sheet that both have signed.
+    pub fn holding(self, sheet: Sheet) -> Account
+        ensures { standing_of result ≡ held_of (standing_of self) (content_of sheet) }
+    {
+        Account {
+            held: sheet,
+            next: Next::Nothing,
+            ..self
+        }
     }
 
     // The neighbour's signature under the next with that number: the next is held from then on.
@@ -60,39 +82,29 @@ impl Account {
         if self.is_frozen() {
             return Err(Refusal::NotOpen);
         }
-        if self.next == Next::Nothing || self.next_sheet.number != number {
-            return Err(Refusal::Mismatch);
+        match self.under_way() {
+            Some(next) if next.number == number => Ok(self.holding(*next)),
+            _ => Err(Refusal::Mismatch),
         }
-        let held = self.next_sheet;
-        let mut after = self;
-        after.held = held;
-        after.next = Next::Nothing;
-        Ok(after)
     }
 
     // Does a sheet that may count have an in with the lock.
     pub fn has_in(&self, lock: &[u8; 32]) -> bool
         ensures { result ≡ on_either (λ s. s.ins) (standing_of self.now) lock.now }
     {
-        if find(self.held.ins(), lock).is_some() {
-            return true;
-        }
-        match self.next {
-            Next::Sent => find(self.next_sheet.ins(), lock).is_some(),
-            Next::Nothing => false,
-        }
+        find(self.held.ins(), lock).is_some()
+            || self
+                .under_way()
+                .is_some_and(|next| find(next.ins(), lock).is_some())
     }
 
     // Does a sheet that may count have an out with the lock.
     pub fn has_out(&self, lock: &[u8; 32]) -> bool
         ensures { result ≡ on_either (λ s. s.outs) (standing_of self.now) lock.now }
     {
-        if find(self.held.outs(), lock).is_some() {
-            return true;
-        }
-        match self.next {
-            Next::Sent => find(self.next_sheet.outs(), lock).is_some(),
-            Next::Nothing => false,
-        }
+        find(self.held.outs(), lock).is_some()
+            || self
+                .under_way()
+                .is_some_and(|next| find(next.outs(), lock).is_some())
     }
 }

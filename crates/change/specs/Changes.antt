@@ -30,6 +30,15 @@ abbrev pub taking : Option Payment → (Payment → Result Content Refusal) → 
 taking None next = Err Mismatch
 taking (Some p) next = next p
 
+-- What is left of the money that covers a payment, if that may be added to the others.
+abbrev pub left : Payment → List Payment → (covers : ℕ) → Result ℕ Refusal
+left p ps covers = cond (is_some (found p.lock ps)) (Err LockUsed) (cond (nat_le p.amount covers) (Ok (covers - p.amount)) (Err NotCovered))
+
+-- What the money is with the amount of a payment that is taken off.
+abbrev pub gained : Option Payment → (money : ℕ) → Result ℕ Refusal
+gained None money = Err Mismatch
+gained (Some p) money = cond (nat_le (money + p.amount) most) (Ok (money + p.amount)) (Err TooLarge)
+
 -- The held sheet with a change.
 abbrev pub changed : Content → Change → Payment → Result Content Refusal
 changed s Offered p = adding p s.ins s.theirs (after s s.own (s.theirs - p.amount) (p ∷ s.ins) s.outs)

@@ -14,8 +14,10 @@ use refusal::Refusal;
 use sheet::{Payment, Sheet};
 
 mod steps;
+mod totals;
 mod types;
 
+pub use totals::{amounts, total};
 pub use types::Change;
 
 // The held sheet with a change, or the refusal.

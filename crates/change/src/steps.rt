@@ -1,108 +1,82 @@
 // The six changes, one by one.
 ghost use Rattle.std.specs.Prelude.{◌≡◌};
-ghost use Rattle.sheet.specs.Contents.{content_of};
-ghost use Rattle.change.specs.Changes.{after, changed, on_content};
+ghost use Rattle.sheet.specs.Contents.{content_of, found};
+ghost use Rattle.change.specs.Changes.{after, changed, gained, left, on_content};
 ghost use Rattle.change.specs.declared.types.Change.TheVariants.{Offered, PassingOn, Paying, Getting, Returned, GivingUp};
 
 use refusal::Refusal;
 use sheet::{Payment, Sheet, find};
 
-// The sheet with the next number.
-fn numbered(sheet: Sheet) -> Result<Sheet, Refusal>
-    ensures { on_content result ≡ after (content_of sheet) sheet.own sheet.theirs (content_of sheet).ins (content_of sheet).outs }
+// The sheet with the next number, and with these amounts.
+fn numbered(mut sheet: Sheet, own: u32, theirs: u32) -> Result<Sheet, Refusal>
+    ensures { on_content result ≡ after (content_of sheet) own theirs (content_of sheet).ins (content_of sheet).outs }
 {
-    let Some(number) = sheet.number.checked_add(1) else {
-        return Err(Refusal::TooLarge);
-    };
-    let mut next = sheet;
-    next.number = number;
-    Ok(next)
+    sheet.number = sheet.number.checked_add(1).ok_or(Refusal::TooLarge)?;
+    sheet.own = own;
+    sheet.theirs = theirs;
+    Ok(sheet)
+}
+
+// What is left of the money that covers a payment, if it may be added to the others.
+fn left(others: &[Payment], covers: u32, payment: &Payment) -> Result<u32, Refusal>
+    ensures { result ≡ left payment.now others.now covers }
+{
+    if find(others, &payment.lock).is_some() {
+        return Err(Refusal::LockUsed);
+    }
+    covers
+        .checked_sub(payment.amount)
+        .ok_or(Refusal::NotCovered)
+}
+
+// What the money is with the amount of the listed payment that has the lock.
+fn gained(list: &[Payment], money: u32, lock: &[u8; 32]) -> Result<u32, Refusal>
+    ensures { result ≡ gained (found lock.now list.now) money }
+{
+    let payment = find(list, lock).ok_or(Refusal::Mismatch)?;
+    money.checked_add(payment.amount).ok_or(Refusal::TooLarge)
 }
 
 pub(crate) fn offered(held: Sheet, payment: Payment) -> Result<Sheet, Refusal>
     ensures { on_content result ≡ changed (content_of held) Offered payment }
 {
-    if find(held.ins(), &payment.lock).is_some() {
-        return Err(Refusal::LockUsed);
-    }
-    if held.theirs < payment.amount {
-        return Err(Refusal::NotCovered);
-    }
-    let Some(mut next) = held.with_in(payment) else {
-        return Err(Refusal::NotCovered);
-    };
-    next.theirs = held.theirs - payment.amount;
-    numbered(next)
+    let theirs = left(held.ins(), held.theirs, &payment)?;
+    let next = held.with_in(payment).ok_or(Refusal::NotCovered)?;
+    numbered(next, held.own, theirs)
 }
 
 pub(crate) fn passing_on(held: Sheet, payment: Payment) -> Result<Sheet, Refusal>
     ensures { on_content result ≡ changed (content_of held) PassingOn payment }
 {
-    if find(held.outs(), &payment.lock).is_some() {
-        return Err(Refusal::LockUsed);
-    }
-    if held.own < payment.amount {
-        return Err(Refusal::NotCovered);
-    }
-    let Some(mut next) = held.with_out(payment) else {
-        return Err(Refusal::NotCovered);
-    };
-    next.own = held.own - payment.amount;
-    numbered(next)
+    let own = left(held.outs(), held.own, &payment)?;
+    let next = held.with_out(payment).ok_or(Refusal::NotCovered)?;
+    numbered(next, own, held.theirs)
 }
 
 pub(crate) fn paying(held: Sheet, payment: Payment) -> Result<Sheet, Refusal>
     ensures { on_content result ≡ changed (content_of held) Paying payment }
 {
-    let Some(out) = find(held.outs(), &payment.lock) else {
-        return Err(Refusal::Mismatch);
-    };
-    let Some(theirs) = held.theirs.checked_add(out.amount) else {
-        return Err(Refusal::TooLarge);
-    };
-    let mut next = held.without_out(&payment.lock);
-    next.theirs = theirs;
-    numbered(next)
+    let theirs = gained(held.outs(), held.theirs, &payment.lock)?;
+    numbered(held.without_out(&payment.lock), held.own, theirs)
 }
 
 pub(crate) fn getting(held: Sheet, payment: Payment) -> Result<Sheet, Refusal>
     ensures { on_content result ≡ changed (content_of held) Getting payment }
 {
-    let Some(incoming) = find(held.ins(), &payment.lock) else {
-        return Err(Refusal::Mismatch);
-    };
-    let Some(own) = held.own.checked_add(incoming.amount) else {
-        return Err(Refusal::TooLarge);
-    };
-    let mut next = held.without_in(&payment.lock);
-    next.own = own;
-    numbered(next)
+    let own = gained(held.ins(), held.own, &payment.lock)?;
+    numbered(held.without_in(&payment.lock), own, held.theirs)
 }
 
 pub(crate) fn returned(held: Sheet, payment: Payment) -> Result<Sheet, Refusal>
     ensures { on_content result ≡ changed (content_of held) Returned payment }
 {
-    let Some(out) = find(held.outs(), &payment.lock) else {
-        return Err(Refusal::Mismatch);
-    };
-    let Some(own) = held.own.checked_add(out.amount) else {
-        return Err(Refusal::TooLarge);
-    };
-    let mut next = held.without_out(&payment.lock);
-    next.own = own;
-    numbered(next)
+    let own = gained(held.outs(), held.own, &payment.lock)?;
+    numbered(held.without_out(&payment.lock), own, held.theirs)
 }
 
 pub(crate) fn giving_up(held: Sheet, payment: Payment) -> Result<Sheet, Refusal>
     ensures { on_content result ≡ changed (content_of held) GivingUp payment }
 {
-    let Some(incoming) = find(held.ins(), &payment.lock) else {
-        return Err(Refusal::Mismatch);
-    };
-    let Some(theirs) = held.theirs.checked_add(incoming.amount) else {
-        return Err(Refusal::TooLarge);
-    };
-    let mut next = held.without_in(&payment.lock);
-    next.theirs = theirs;
-    numbered(next)
+    let theirs = gained(held.ins(), held.theirs, &payment.lock)?;
+    numbered(held.without_in(&payment.lock), held.own, theirs)
 }

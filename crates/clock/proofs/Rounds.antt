@@ -1,10 +1,10 @@
 -- Each element of a list is changed in turn.
-use Rattle.std.proofs.Common.{◌≡◌, ℕ, ◌+◌, ◌<◌, ◌≤◌, Bool, true, false, List, [], ◌∷◌, ◌++◌, map, length, get_or, take, drop, set, sym, ap, ◌∙◌, arith}
+use Rattle.std.proofs.Common.{◌≡◌, ℕ, ◌+◌, ◌<◌, ◌≤◌, List, [], ◌∷◌, ◌++◌, map, length, get_or, take, drop, set, sym, ap, ◌∙◌, arith}
 use Rattle.sheet.specs.Contents.{first_of}
 use Rattle.account.specs.Accounts.{Standing, opened_of}
 use Rattle.node_state.specs.Nodes.{NodeState, account_at, with_account, with_accounts}
-use Rattle.clock.specs.Clocks.{is_later, any_later, looked_at}
-use Rattle.std.proofs.lemmas.List.{append_assoc, append-nil, drop_more, drop_all, take_all, set_at, get_or_at, map_more, length-map, length-take-le, at_drop_more, at_drop_all}
+use Rattle.clock.specs.Clocks.{looked_at}
+use Rattle.std.proofs.lemmas.List.{append_assoc, append-nil, drop_more, drop_all, take_all, set_at, get_or_at, map_more, length-map, length-take-le}
 
 module _ {X : Type 0} (f : X → X) (xs : List X) where
   -- the first i are changed
@@ -26,17 +26,6 @@ module _ {X : Type 0} (f : X → X) (xs : List X) where
   pub changed_all : (i : ℕ) → length xs ≤ i → changed_to i ≡ map f xs
   changed_all i h =
       ap (λ l. map f l ++ drop i xs) (take_all i xs h) ∙ ap (λ l. map f xs ++ l) (drop_all i xs h) ∙ append-nil (map f xs)
-
--- A search for an account that was looked at later.
-module _ (xs : List Standing) (tick i : ℕ) (w : Bool) where
-  pub later_more : (d : Standing) → i < length xs → is_later (get_or xs i d).looked tick ≡ false → any_later (drop i xs) tick ≡ w → any_later (drop (i + 1) xs) tick ≡ w
-  later_more d h other inv = sym (at_drop_more (λ l. any_later l tick) xs i d h ∙ rw other) ∙ inv
-
-  pub later_here : (d : Standing) → i < length xs → is_later (get_or xs i d).looked tick ≡ true → any_later (drop i xs) tick ≡ w → true ≡ w
-  later_here d h here inv = sym (at_drop_more (λ l. any_later l tick) xs i d h ∙ rw here) ∙ inv
-
-  pub later_none : length xs ≤ i → any_later (drop i xs) tick ≡ w → false ≡ w
-  later_none h inv = sym (at_drop_all (λ l. any_later l tick) xs i h) ∙ inv
 
 -- One account more has been looked at: N is the node before, a its account, b that account after, M the node after.
 pub looked_more : (S N M : NodeState) (tick i : ℕ) (a b : Standing) → i < length S.accounts → N ≡ with_accounts S (changed_to (looked_at tick) S.accounts i) → a ≡ account_at N i → b ≡ looked_at tick a → M ≡ with_account N i b → M ≡ with_accounts S (changed_to (looked_at tick) S.accounts (i + 1))

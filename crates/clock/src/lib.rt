@@ -15,30 +15,26 @@ use refusal::Refusal;
 fn looked(account: Account, tick: u32) -> Account
     ensures { standing_of result ≡ looked_at tick (standing_of account) }
 {
-    let mut after = account;
-    after.looked = Some(tick);
-    after
+    Account {
+        looked: Some(tick),
+        ..account
+    }
 }
 
 // Was the last look at the account later than the tick.
 fn is_later(account: &Account, tick: u32) -> bool
     ensures { result ≡ is_later (standing_of account.now).looked tick }
 {
-    match account.looked {
-        Some(last) => tick < last,
-        None => false,
-    }
+    account.looked.is_some_and(|last| tick < last)
 }
 
-fn any_later(node: &Node, tick: u32) -> bool
+// Was the last look at an account later than the tick.
+pub fn any_later(node: &Node, tick: u32) -> bool
     ensures { result ≡ any_later (state_of node.now).accounts tick }
 {
-    for i in 0..node.many() {
-        if is_later(&node.account(i), tick) {
-            return true;
-        }
-    }
-    false
+    node.accounts()
+        .iter()
+        .any(|account| is_later(account, tick))
 }
 
 fn look_at_all(node: &mut Node, tick: u32)

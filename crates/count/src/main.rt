@@ -4,7 +4,8 @@
 use account::Next;
 use anyhow::anyhow;
 use counting::{Count, count, ins_total, outs_total};
-use node_state::{Node, Terms};
+use node_state::Node;
+use schedule::Terms;
 use replay::{Replayed, StartFault, replay};
 use sheet::Sheet;
 use std::alloc::{AllocError, Global};

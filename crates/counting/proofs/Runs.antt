@@ -4,7 +4,7 @@ use Rattle.std.proofs.lemmas.Int.{ints}
 use Rattle.sheet.specs.Contents.{Content, first_of}
 use Rattle.account.specs.Accounts.{Standing, opened_of, signed_of, held_of}
 use Rattle.change.specs.declared.types.Change.TheVariants.{Offered, PassingOn, Paying, Getting, Returned, GivingUp}
-use Rattle.node_state.specs.declared.types.Terms.{Terms}
+use Rattle.schedule.specs.declared.types.Terms.{Terms}
 use Rattle.node_state.specs.Nodes.{NodeState, account_at}
 use Rattle.judgement.specs.Tests.{has_key}
 use Rattle.moments.specs.Runs.{Deposit, after, start_of, node_after}

@@ -1,7 +1,7 @@
 -- What holds of the least, and of every run of a node. Assumes nothing.
 use Rattle.std.specs.Prelude.{ℕ, ◌≤◌, List, ◌++◌, length, pos, ◌≤ℤ◌, Ok}
 use Rattle.std.specs.List.{flat_map, AllByRecursion}
-use Rattle.node_state.specs.declared.types.Terms.{Terms}
+use Rattle.schedule.specs.declared.types.Terms.{Terms}
 use Rattle.node_state.specs.Nodes.{NodeState}
 use Rattle.journal.specs.Records.{record_bytes}
 use Rattle.moments.specs.Runs.{Deposit, Event, node_after}

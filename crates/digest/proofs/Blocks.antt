@@ -1,5 +1,6 @@
 -- A message hashed in two parts: its whole blocks, and what is left with the padding.
-use Rattle.std.proofs.Common.{◌≡◌, ℕ, zero, suc, ◌+◌, ◌*◌, ◌/◌, ◌≤◌, List, ◌++◌, length, take, drop, sym, refl, ap, ◌∙◌, append_assoc, add-zero, add-suc, mul-suc, mul-add, add-one, arith}
+use Rattle.std.proofs.Common.{◌≡◌, ℕ, zero, suc, ◌+◌, ◌*◌, ◌/◌, ◌<◌, ◌≤◌, List, ◌++◌, length, get_or, take, drop, sym, refl, ap, ◌∙◌, append_assoc, add-zero, add-suc, mul-suc, mul-add, mul-zero, add_comm, add-one, arith}
+use Rattle.std.specs.Simd.{first_chunks}
 use Rattle.std.proofs.lemmas.List.{take-append-le, drop-append-le, drop-drop, drop_at, take-append-drop, length-append, length-drop, length-take-le, take_all}
 use Rattle.digest.specs.declared.state.State.{State}
 use Rattle.digest.specs.Sha256.{block_at, compressed, absorbed, padding, padded, hashed, start}
@@ -74,3 +75,11 @@ absorbed_more i s v r m b was block ran =
 pub absorbed_none : (s : State) (m : List ℕ) → s ≡ absorbed 0 s m
 unfolding absorbed
 absorbed_none s m = refl
+
+-- a block among all
+pub chunk_at : (n k : ℕ) (xs : List ℕ) (i : ℕ) (d : List ℕ) → i < k → get_or (first_chunks n k xs) i d ≡ take n (drop (n * i) xs)
+chunk_at n zero xs i d h = absurd (omega arith)
+chunk_at n (suc k) xs zero d h = ap (λ j. take n (drop j xs)) (sym (mul-zero n))
+chunk_at n (suc k) xs (suc i) d h =
+    let more : n * suc i ≡ n + n * i = mul-suc n i ∙ add_comm (n * i) n in
+    chunk_at n k (drop n xs) i d (omega arith) ∙ ap (λ t. take n t) (drop-drop (n * i) n xs ∙ sym (ap (λ j. drop j xs) more))

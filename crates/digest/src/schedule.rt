@@ -1,13 +1,12 @@
 // The words of a block's message schedule.
-ghost use Rattle.std.specs.Prelude.{◌≡◌, ◌<◌, ◌≤◌, length};
+ghost use Rattle.std.specs.Prelude.{◌≡◌, ◌<◌, ◌≤◌};
 ghost use Rattle.digest.specs.Sha256.{word as word_of, next_word};
 
 use crate::words::{small_sigma0, small_sigma1};
 
 // Word t of the block, its high byte first.
-pub(crate) fn word(block: &[u8], t: usize) -> u32
-    requires whole { length block.now ≡ 64 }
-    requires within { t < 16 }
+pub(crate) fn word(block: &[u8; 64], t: usize) -> u32
+    requires { t < 16 }
     ensures { result ≡ word_of block.now t }
 {
     u32::from_be_bytes([

@@ -1,7 +1,6 @@
 // The hash value, and in a round the working variables: eight words.
-ghost use Rattle.std.specs.Prelude.{◌≡◌, ◌+◌, ◌≤◌};
-ghost use Rattle.std.proofs.Math.Seq.{paste};
-ghost use Rattle.digest.specs.Sha256.{bytes4, bytes_of};
+ghost use Rattle.std.specs.Prelude.{◌≡◌};
+ghost use Rattle.digest.specs.Sha256.{bytes_of};
 
 #[derive(Clone, Copy)]
 pub struct State {
@@ -32,23 +31,18 @@ impl State {
     pub(crate) fn to_bytes(self) -> [u8; 32]
         ensures { result ≡ bytes_of self }
     {
-        let mut out = [0u8; 32];
-        put_word(&mut out, 0, self.a);
-        put_word(&mut out, 4, self.b);
-        put_word(&mut out, 8, self.c);
-        put_word(&mut out, 12, self.d);
-        put_word(&mut out, 16, self.e);
-        put_word(&mut out, 20, self.f);
-        put_word(&mut out, 24, self.g);
-        put_word(&mut out, 28, self.h);
+        let words = [
+            self.a.to_be_bytes(),
+            self.b.to_be_bytes(),
+            self.c.to_be_bytes(),
+            self.d.to_be_bytes(),
+            self.e.to_be_bytes(),
+            self.f.to_be_bytes(),
+            self.g.to_be_bytes(),
+            self.h.to_be_bytes(),
+        ];
+        let mut out = [0; 32];
+        out.copy_from_slice(words.as_flattened());
         out
     }
-}
-
-// Writes a word at a place, its high byte first.
-fn put_word(out: &mut [u8; 32], at: usize, x: u32)
-    requires { at + 4 ≤ 32 }
-    ensures { out.new ≡ paste out.old at (bytes4 x) 4 }
-{
-    out[at..at + 4].copy_from_slice(&x.to_be_bytes());
 }

@@ -14,7 +14,7 @@ use Rattle.change.specs.Changes.{most}
 use Rattle.change.specs.Follows.{NotAmong, Follows}
 use Rattle.change.specs.Totals.{amounts, total_of}
 use Rattle.change.proofs.Standing.{none_some, taken}
-use Rattle.node_state.specs.declared.types.Terms.{Terms}
+use Rattle.schedule.specs.declared.types.Terms.{Terms}
 use Rattle.node_state.specs.declared.types.Route.{Route}
 use Rattle.node_state.specs.Nodes.{NodeState, account_at, with_route}
 use Rattle.judgement.specs.Tests.{has_key}

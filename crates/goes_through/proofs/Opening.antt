@@ -10,7 +10,7 @@ use Rattle.change.specs.Changes.{most}
 use Rattle.change.specs.Follows.{Follows}
 use Rattle.change.proofs.Standing.{none_some}
 use Rattle.account.specs.Accounts.{Standing, opened_of, signed_of, held_of, is_frozen}
-use Rattle.node_state.specs.declared.types.Terms.{Terms}
+use Rattle.schedule.specs.declared.types.Terms.{Terms}
 use Rattle.node_state.specs.Nodes.{NodeState, account_at, with_accounts, with_account}
 use Rattle.judgement.specs.declared.types.Signature.{Signature}
 use Rattle.judgement.specs.Tests.{is_under_way, looked_at}

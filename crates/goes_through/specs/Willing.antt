@@ -6,7 +6,7 @@ use Rattle.sheet.specs.declared.types.Payment.{Payment}
 use Rattle.sheet.specs.Contents.{Content, without}
 use Rattle.change.specs.Changes.{most}
 use Rattle.change.specs.Follows.{NotAmong}
-use Rattle.node_state.specs.declared.types.Terms.{Terms}
+use Rattle.schedule.specs.declared.types.Terms.{Terms}
 use Rattle.node_state.specs.Nodes.{account_at}
 use Rattle.judgement.specs.Tests.{looked_at}
 use Rattle.rules.specs.declared.types.Message.TheVariants.{Signed, Key}

@@ -14,7 +14,7 @@ mod types;
 mod writing;
 
 pub use reading::{read_record, whole_part};
-pub use types::{Reading, Record, RecordRead};
+pub use types::{Damaged, Record, RecordRead};
 pub use writing::push_record;
 
 // The theorem that, wherever the file is cut, the records that lie whole before the cut are read back.

@@ -1,9 +1,9 @@
 // Reading records: one at a place, and how far the whole ones reach.
-ghost use Rattle.std.specs.Prelude.{◌≡◌, ◌+◌, ◌-◌, ◌<◌, ◌≤◌, length, take, drop, if◌then◌else◌, MatchResult, slice_index};
-ghost use Rattle.journal.specs.Records.{signed_record, both_record, overfull, sheet_after, passed_after, key_after, record_read, whole_part};
-ghost use Rattle.journal.specs.Readings.{outcome, Uses};
+ghost use Rattle.std.specs.Prelude.{◌≡◌, ◌+◌, ◌-◌, ◌<◌, ◌≤◌, length, drop, IfErr, MatchResult, slice_index, Ok};
+ghost use Rattle.journal.specs.Records.{overfull, passed_after, key_after, record_read, whole_part};
+ghost use Rattle.journal.specs.Readings.{outcome, Uses, reach};
 
-use crate::types::{Reading, Record, RecordRead};
+use crate::types::{Damaged, Record, RecordRead};
 use sheet_bytes::read_sheet;
 
 // The byte at a place, 0 where there is none.
@@ -11,11 +11,7 @@ fn byte_at(bytes: &[u8], at: usize) -> usize
     ensures value { result ≡ slice_index bytes.now at }
     ensures byte { result < 256 }
 {
-    if at < bytes.len() {
-        bytes[at] as usize
-    } else {
-        0
-    }
+    usize::from(bytes.get(at).copied().unwrap_or(0))
 }
 
 // Is one of a sheet's counts there and above 32?
@@ -26,119 +22,71 @@ fn is_overfull(rest: &[u8]) -> bool
     ins > 32 || byte_at(rest, 14 + 40 * ins) > 32
 }
 
-// Reads a record with a sheet, past its first byte.
-fn read_sheet_after(rest: &[u8], both: bool) -> Reading
-    ensures value { outcome result ≡ sheet_after (if both then both_record else signed_record) rest.now }
-    ensures within { Uses result (λ n. n ≤ 1 + length rest.now) }
-    ensures some { Uses result (λ n. 0 < n) }
-{
-    if is_overfull(rest) {
-        return Reading::Damaged;
-    }
-    let Ok(got) = read_sheet(rest) else {
-        return Reading::Short;
-    };
-    let record = if both {
-        Record::Both(got.sheet)
-    } else {
-        Record::Signed(got.sheet)
-    };
-    Reading::Whole(RecordRead {
-        record,
-        used: 1 + got.used,
-    })
-}
-
-// The 32 bytes at the start, where they are known to be.
-fn first_32(bytes: &[u8]) -> [u8; 32]
-    requires { 32 ≤ length bytes.now }
-    ensures { result ≡ take 32 bytes.now }
-{
-    let mut first = [0; 32];
-    first.copy_from_slice(&bytes[0..32]);
-    first
-}
-
 // Reads a record with a lock passed on, past its first byte.
-fn read_passed_after(rest: &[u8]) -> Reading
-    ensures value { outcome result ≡ passed_after rest.now }
-    ensures within { Uses result (λ n. n ≤ 1 + length rest.now) }
-    ensures some { Uses result (λ n. 0 < n) }
+fn read_passed_after(rest: &[u8]) -> Option<RecordRead>
+    ensures value { outcome (Ok result) ≡ passed_after rest.now }
+    ensures within { Uses (Ok result) (λ n. n ≤ 1 + length rest.now) }
+    ensures some { Uses (Ok result) (λ n. 0 < n) }
 {
-    if rest.len() < 34 {
-        return Reading::Short;
-    }
-    let (lock, from, to) = (first_32(rest), rest[32], rest[33]);
-    Reading::Whole(RecordRead {
+    let lock = *rest.first_chunk()?;
+    let (from, to) = (*rest.get(32)?, *rest.get(33)?);
+    Some(RecordRead {
         record: Record::Passed { lock, from, to },
         used: 35,
     })
 }
 
 // Reads a record with a key, past its first byte.
-fn read_key_after(rest: &[u8]) -> Reading
-    ensures value { outcome result ≡ key_after rest.now }
-    ensures within { Uses result (λ n. n ≤ 1 + length rest.now) }
-    ensures some { Uses result (λ n. 0 < n) }
+fn read_key_after(rest: &[u8]) -> Option<RecordRead>
+    ensures value { outcome (Ok result) ≡ key_after rest.now }
+    ensures within { Uses (Ok result) (λ n. n ≤ 1 + length rest.now) }
+    ensures some { Uses (Ok result) (λ n. 0 < n) }
 {
-    if rest.len() < 32 {
-        return Reading::Short;
-    }
-    Reading::Whole(RecordRead {
-        record: Record::Key(first_32(rest)),
+    let key = *rest.first_chunk()?;
+    Some(RecordRead {
+        record: Record::Key(key),
         used: 33,
     })
 }
 
-// The bytes from a place on: none where the place is past the end.
-fn rest_from(bytes: &[u8], at: usize) -> &[u8]
-    ensures value { result.now ≡ drop at bytes.now }
-    ensures len { length result.now ≡ length bytes.now - at }
-{
-    &bytes[at.min(bytes.len())..]
-}
-
-// Reads the record that the bytes begin with.
-fn read_first(bytes: &[u8]) -> Reading
-    ensures value { outcome result ≡ record_read bytes.now }
-    ensures within { Uses result (λ n. n ≤ length bytes.now) }
-    ensures some { Uses result (λ n. 0 < n) }
-{
-    if bytes.len() == 0 {
-        return Reading::Short;
-    }
-    let rest = rest_from(bytes, 1);
-    match bytes[0] {
-        4 => read_sheet_after(rest, false),
-        5 => read_sheet_after(rest, true),
-        6 => read_passed_after(rest),
-        7 => read_key_after(rest),
-        _ => Reading::Damaged,
-    }
-}
-
-// Reads the record at a place.
-pub fn read_record(bytes: &[u8], at: usize) -> Reading
+// Reads the record at a place; None where the bytes end inside it, or none is left.
+pub fn read_record(bytes: &[u8], at: usize) -> Result<Option<RecordRead>, Damaged>
     ensures value { outcome result ≡ record_read (drop at bytes.now) }
     ensures within { Uses result (λ n. at + n ≤ length bytes.now) }
     ensures some { Uses result (λ n. 0 < n) }
+    ensures place { IfErr result (λ e. e.at ≡ at) }
 {
-    read_first(rest_from(bytes, at))
+    let Some([first, rest @ ..]) = bytes.get(at..) else {
+        return Ok(None);
+    };
+    match *first {
+        4 | 5 if is_overfull(rest) => Err(Damaged { at }),
+        4 => Ok(
+            read_sheet(rest).ok().map(|got| RecordRead {
+                record: Record::Signed(got.sheet),
+                used: 1 + got.used,
+            }),
+        ),
+        5 => Ok(
+            read_sheet(rest).ok().map(|got| RecordRead {
+                record: Record::Both(got.sheet),
+                used: 1 + got.used,
+            }),
+        ),
+        6 => Ok(read_passed_after(rest)),
+        7 => Ok(read_key_after(rest)),
+        _ => Err(Damaged { at }),
+    }
 }
 
-// How many bytes the whole records from the start take: where the file is cut back to. Err with the place of the
-// damaged record where one comes after them.
-pub fn whole_part(bytes: &[u8]) -> Result<usize, usize>
-    ensures value { result ≡ whole_part bytes.now }
-    ensures within { MatchResult result (λ n. n ≤ length bytes.now) (λ n. n ≤ length bytes.now) }
+// How many bytes the whole records from the start take: where the file is cut back to.
+pub fn whole_part(bytes: &[u8]) -> Result<usize, Damaged>
+    ensures value { reach result ≡ whole_part bytes.now }
+    ensures within { MatchResult result (λ n. n ≤ length bytes.now) (λ e. e.at ≤ length bytes.now) }
 {
     let mut at = 0;
-    for _turn in 0..bytes.len() {
-        match read_record(bytes, at) {
-            Reading::Whole(got) => at += got.used,
-            Reading::Short => return Ok(at),
-            Reading::Damaged => return Err(at),
-        }
+    while let Some(got) = read_record(bytes, at)? {
+        at += got.used;
     }
     Ok(at)
 }

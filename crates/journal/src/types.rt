@@ -20,12 +20,8 @@ pub struct RecordRead {
     pub used: usize,
 }
 
-// What the bytes from a place on begin with.
-#[derive(Clone, Copy)]
-pub enum Reading {
-    Whole(RecordRead),
-    // the bytes end inside a record, or none is left
-    Short,
-    // an unknown first byte, or a count above 32
-    Damaged,
+// The record at this place has an unknown first byte, or a count above 32.
+#[derive(Clone, Copy, PartialEq, Eq, Debug)]
+pub struct Damaged {
+    pub at: usize,
 }

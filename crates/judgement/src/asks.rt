@@ -1,14 +1,17 @@
 // What the rules ask of the node before it signs.
-ghost use Rattle.std.specs.Prelude.{◌≡◌};
+ghost use Rattle.std.specs.Prelude.{◌≡◌, ◌<◌, false};
 ghost use Rattle.account.specs.Accounts.{standing_of};
 ghost use Rattle.change.specs.Changes.{on_content};
 ghost use Rattle.node_state.specs.Nodes.{state_of};
-ghost use Rattle.judgement.specs.Tests.{unless, is_shut, is_under_way, has_key, used_in, used_out, too_near, out_stands};
+ghost use Rattle.judgement.specs.Tests.{unless, is_shut, is_closed, is_under_way, has_key, used_in, used_out, too_near, out_stands};
 
-use account::{Account, Next};
+use account::Account;
 use node_state::Node;
 use refusal::Refusal;
 use sheet::{Payment, Sheet};
+
+// The largest number of an account.
+pub(crate) const LAST: u8 = 15;
 
 // What would be signed, with one refusal more that applies or not: the lowest number is given.
 pub(crate) fn refuse_if(
@@ -22,31 +25,31 @@ pub(crate) fn refuse_if(
         return next;
     }
     match next {
-        Ok(_) => Err(refusal),
-        Err(other) => {
-            if other.number() <= refusal.number() {
-                Err(other)
-            } else {
-                Err(refusal)
-            }
-        }
+        Err(other) if other.number() <= refusal.number() => Err(other),
+        _ => Err(refusal),
     }
 }
 
 // Is there no such account, or does the node sign nothing there now.
 pub(crate) fn is_shut(node: &Node, i: usize) -> bool
-    ensures { result ≡ is_shut (state_of node.now) i }
+    ensures value { result ≡ is_shut (state_of node.now) i }
+    ensures within { result ≡ false → i < 16 }
 {
     i >= node.many() || node.account(i).is_frozen()
+}
+
+// Is the account that a message comes for shut, or the sender's number for it none.
+pub(crate) fn is_closed(node: &Node, i: usize, account: u8) -> bool
+    ensures value { result ≡ is_closed (state_of node.now) i account }
+    ensures within { result ≡ false → i < 16 }
+{
+    is_shut(node, i) || account > LAST
 }
 
 pub fn is_under_way(account: &Account) -> bool
     ensures { result ≡ is_under_way (standing_of account.now) }
 {
-    match account.next {
-        Next::Sent => true,
-        Next::Nothing => false,
-    }
+    account.under_way().is_some()
 }
 
 pub fn has_key(node: &Node, lock: &[u8; 32]) -> bool
@@ -88,8 +91,6 @@ pub(crate) fn too_near(
 pub(crate) fn out_stands(node: &Node, lock: &[u8; 32]) -> bool
     ensures { result ≡ out_stands (state_of node.now) lock.now ((state_of node.now).route_of lock.now) }
 {
-    match node.route_of(lock) {
-        Some(route) => node.account(route.to as usize).has_out(lock),
-        None => false,
-    }
+    node.route_of(lock)
+        .is_some_and(|route| node.account(route.to as usize).has_out(lock))
 }

@@ -27,22 +27,17 @@ fn only_lock(lock: &[u8; 32]) -> Payment
 fn may_call(node: &Node, i: usize) -> Result<(), Refusal>
     ensures { result ≡ may_call (state_of node.now) i }
 {
-    if is_shut(node, i) {
+    if i >= node.many() {
         return Err(Refusal::NotOpen);
     }
-    if is_under_way(&node.account(i)) {
-        return Err(Refusal::UnderWay);
-    }
-    Ok(())
+    node.account(i).may_sign()
 }
 
 // Paying or getting the payment with the lock.
 pub fn to_settle(node: &Node, i: usize, change: Change, lock: &[u8; 32]) -> Result<Sheet, Refusal>
     ensures { on_content result ≡ to_settle (state_of node.now) i change lock.now }
 {
-    if let Err(refusal) = may_call(node, i) {
-        return Err(refusal);
-    }
+    may_call(node, i)?;
     let next = apply(node.account(i).held, change, only_lock(lock));
     refuse_if(next, !has_key(node, lock), Refusal::KeyMissing)
 }
@@ -51,9 +46,7 @@ pub fn to_settle(node: &Node, i: usize, change: Change, lock: &[u8; 32]) -> Resu
 pub fn to_give_up(node: &Node, i: usize, lock: &[u8; 32]) -> Result<Sheet, Refusal>
     ensures { on_content result ≡ to_give_up (state_of node.now) i lock.now }
 {
-    if let Err(refusal) = may_call(node, i) {
-        return Err(refusal);
-    }
+    may_call(node, i)?;
     let next = apply(node.account(i).held, Change::GivingUp, only_lock(lock));
     let next = refuse_if(next, out_stands(node, lock), Refusal::OutStands);
     refuse_if(next, has_key(node, lock), Refusal::KeyKnown)
@@ -91,8 +84,6 @@ pub fn to_pass(node: &Node, i: usize, j: usize, payment: Payment) -> Result<Shee
     if i == j {
         return Err(Refusal::Mismatch);
     }
-    let Some(incoming) = find(from.held.ins(), &payment.lock) else {
-        return Err(Refusal::Mismatch);
-    };
+    let incoming = find(from.held.ins(), &payment.lock).ok_or(Refusal::Mismatch)?;
     passed_as(node, &from, &to, payment, incoming)
 }

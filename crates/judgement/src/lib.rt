@@ -6,7 +6,6 @@
 mod asks;
 mod calls;
 mod messages;
-mod same;
 mod types;
 
 pub use asks::{has_key, is_under_way};

@@ -6,23 +6,20 @@ ghost use Rattle.change.specs.Changes.{on_content};
 ghost use Rattle.node_state.specs.Nodes.{state_of};
 ghost use Rattle.judgement.specs.Judgements.{in_own_view, proposed_as, judged, to_accept, signed_as, to_accept_both, next_with, to_hold};
 
-use crate::asks::{has_key, is_shut, is_under_way, refuse_if, used_in};
-use crate::same::same_sheet;
+use crate::asks::{LAST, has_key, is_closed, is_under_way, refuse_if, used_in};
 use crate::types::Signature;
-use account::{Account, Next};
+use account::Account;
 use change::{Change, apply};
 use node_state::Node;
 use proposal::recognise;
 use refusal::Refusal;
 use sheet::{Payment, Sheet};
 
-// The largest number of an account.
-const LAST: u8 = 15;
-
 // A neighbour's sheet in the node's own view, with the node's own number for the account.
 fn own_view(sheet: Sheet, account: u8) -> Sheet
     ensures { content_of result ≡ in_own_view account (content_of sheet) }
 {
+    // `..` cannot stand here: the fields of a sheet are its crate's own.
     let mut own = sheet.turned();
     own.account = account;
     own
@@ -55,9 +52,7 @@ fn proposed_as(
 fn judge(node: &Node, held: &Sheet, proposed: &Sheet) -> Result<Sheet, Refusal>
     ensures { on_content result ≡ judged (state_of node.now) (content_of held.now) (content_of proposed.now) }
 {
-    let Some(proposal) = recognise(held, proposed) else {
-        return Err(Refusal::Mismatch);
-    };
+    let proposal = recognise(held, proposed).ok_or(Refusal::Mismatch)?;
     proposed_as(node, held, proposal.change, proposal.payment)
 }
 
@@ -65,7 +60,7 @@ fn judge(node: &Node, held: &Sheet, proposed: &Sheet) -> Result<Sheet, Refusal>
 pub fn to_accept(node: &Node, i: usize, sheet: Sheet) -> Result<Sheet, Refusal>
     ensures { on_content result ≡ to_accept (state_of node.now) i (content_of sheet) }
 {
-    if i >= node.many() || is_shut(node, i) || sheet.account > LAST {
+    if is_closed(node, i, sheet.account) {
         return Err(Refusal::NotOpen);
     }
     let account = node.account(i);
@@ -79,20 +74,13 @@ pub fn to_accept(node: &Node, i: usize, sheet: Sheet) -> Result<Sheet, Refusal>
 fn signed_as(node: &Node, account: &Account, sheet: &Sheet, number: u32) -> Result<Sheet, Refusal>
     ensures { on_content result ≡ signed_as (state_of node.now) (content_of account.now.held) (content_of sheet.now) number (standing_of account.now).next }
 {
-    match account.next {
-        Next::Nothing => {
+    match account.under_way() {
+        Some(next) if sheet != next => Err(Refusal::UnderWay),
+        Some(next) if number != next.number => Err(Refusal::Mismatch),
+        Some(next) => Ok(*next),
+        None => {
             let next = judge(node, &account.held, sheet);
             refuse_if(next, number != sheet.number, Refusal::Mismatch)
-        }
-        Next::Sent => {
-            let next = account.next_sheet;
-            if !same_sheet(sheet, &next) {
-                return Err(Refusal::UnderWay);
-            }
-            if number != next.number {
-                return Err(Refusal::Mismatch);
-            }
-            Ok(next)
         }
     }
 }
@@ -106,7 +94,7 @@ pub fn to_accept_both(
 ) -> Result<Sheet, Refusal>
     ensures { on_content result ≡ to_accept_both (state_of node.now) i (content_of sheet) signature }
 {
-    if i >= node.many() || is_shut(node, i) || sheet.account > LAST || signature.account > LAST {
+    if is_closed(node, i, sheet.account) || signature.account > LAST {
         return Err(Refusal::NotOpen);
     }
     signed_as(
@@ -121,14 +109,9 @@ pub fn to_accept_both(
 fn next_with(account: &Account, number: u32) -> Result<Sheet, Refusal>
     ensures { on_content result ≡ next_with number (standing_of account.now).next }
 {
-    match account.next {
-        Next::Nothing => Err(Refusal::Mismatch),
-        Next::Sent => {
-            if account.next_sheet.number != number {
-                return Err(Refusal::Mismatch);
-            }
-            Ok(account.next_sheet)
-        }
+    match account.under_way() {
+        Some(next) if next.number == number => Ok(*next),
+        _ => Err(Refusal::Mismatch),
     }
 }
 
@@ -136,7 +119,7 @@ fn next_with(account: &Account, number: u32) -> Result<Sheet, Refusal>
 pub fn to_hold(node: &Node, i: usize, signature: Signature) -> Result<Sheet, Refusal>
     ensures { on_content result ≡ to_hold (state_of node.now) i signature }
 {
-    if is_shut(node, i) || signature.account > LAST {
+    if is_closed(node, i, signature.account) {
         return Err(Refusal::NotOpen);
     }
     next_with(&node.account(i), signature.number)

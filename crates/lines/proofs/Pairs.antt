@@ -1,8 +1,11 @@
 -- Hexadecimal digits, two for each byte. Assumes nothing.
 use Rattle.std.proofs.Common.{◌≡◌, ℕ, zero, suc, ◌+◌, ◌-◌, ◌*◌, ◌/◌, ◌%◌, ◌<◌, ◌≤◌, cond, ltb, List, [], ◌∷◌, ◌++◌, length, get_or, take, drop, Some, None, Option, unwrap_or, sym, refl, ap, ◌∙◌, append_assoc, append-nil, add-zero, arith}
+use Rattle.std.specs.List.{concat}
+use Rattle.std.specs.Simd.{first_chunks}
 use Rattle.std.proofs.lemmas.List.{at_drop_more, at_drop_all, take_more}
+use Rattle.std.proofs.lemmas.Bool.{cond-true, eq-eqb}
 use Rattle.std.proofs.lemmas.Bool.Decides.{nat_tests}
-use Rattle.lines.specs.Lines.{hex_digit, hex_pair, byte_then, hex_read, hex_code, hex_written, HexReadsBack}
+use Rattle.lines.specs.Lines.{hex_digit, hex_pair, byte_then, hex_read, hex_read_exact, hex_code, hex_written, HexReadsBack}
 
 -- bytes before others
 abbrev pub bytes_then : List ℕ → Option (List ℕ) → Option (List ℕ)
@@ -21,26 +24,36 @@ none_after : (o : Option ℕ) → byte_then o None ≡ None
 none_after None = refl
 none_after (Some b) = refl
 
--- two digits on
-pair_step : (w : List ℕ) (i : ℕ) → 2 * i + 1 < length w → hex_read (drop (2 * i) w) ≡ byte_then (hex_pair (hex_digit (get_or w (2 * i) 0)) (hex_digit (get_or w (2 * i + 1) 0))) (hex_read (drop (2 * (i + 1)) w))
-pair_step w i h =
-    let next : 2 * i + 1 + 1 ≡ 2 * (i + 1) = omega arith in
-    at_drop_more hex_read w (2 * i) 0 (omega arith)
-    ∙ at_drop_more (λ t. hex_read (get_or w (2 * i) 0 ∷ t)) w (2 * i + 1) 0 h
-    ∙ ap (λ k. byte_then (hex_pair (hex_digit (get_or w (2 * i) 0)) (hex_digit (get_or w (2 * i + 1) 0))) (hex_read (drop k w))) next
+two_digits : (p rest : List ℕ) → length p ≡ 2 → hex_read (p ++ rest) ≡ byte_then (hex_pair (hex_digit (get_or p 0 0)) (hex_digit (get_or p 1 0))) (hex_read rest)
+two_digits [] rest h = absurd (omega arith)
+two_digits (a ∷ []) rest h = absurd (omega arith)
+two_digits (a ∷ b ∷ []) rest h = refl
+two_digits (a ∷ b ∷ x ∷ p) rest h = absurd (omega arith)
 
-module _ (w xs : List ℕ) (i : ℕ) (inv : hex_read w ≡ bytes_then xs (hex_read (drop (2 * i) w))) where
-  pub pair_none : 2 * i + 1 < length w → None ≡ hex_pair (hex_digit (get_or w (2 * i) 0)) (hex_digit (get_or w (2 * i + 1) 0)) → None ≡ hex_read w
-  pair_none h e =
-      sym (inv ∙ ap (bytes_then xs) (pair_step w i h ∙ ap (λ o. byte_then o (hex_read (drop (2 * (i + 1)) w))) (sym e)))
+-- one pair on
+pair_step : (ps : List (List ℕ)) (i : ℕ) (d : List ℕ) → i < length ps → length (get_or ps i d) ≡ 2 → hex_read (concat (drop i ps)) ≡ byte_then (hex_pair (hex_digit (get_or (get_or ps i d) 0 0)) (hex_digit (get_or (get_or ps i d) 1 0))) (hex_read (concat (drop (i + 1) ps)))
+pair_step ps i d h two = at_drop_more (λ t. hex_read (concat t)) ps i d h ∙ two_digits (get_or ps i d) (concat (drop (i + 1) ps)) two
 
-  pub pair_more : (b : ℕ) (ys : List ℕ) → 2 * i + 1 < length w → Some b ≡ hex_pair (hex_digit (get_or w (2 * i) 0)) (hex_digit (get_or w (2 * i + 1) 0)) → ys ≡ xs ++ b ∷ [] → hex_read w ≡ bytes_then ys (hex_read (drop (2 * (i + 1)) w))
-  pair_more b ys h e same =
-      inv ∙ ap (bytes_then xs) (pair_step w i h ∙ ap (λ o. byte_then o (hex_read (drop (2 * (i + 1)) w))) (sym e)) ∙ one_more xs b _
-      ∙ ap (λ zs. bytes_then zs (hex_read (drop (2 * (i + 1)) w))) (sym same)
+module _ (ps : List (List ℕ)) (xs : List ℕ) (i : ℕ) (inv : hex_read (concat ps) ≡ bytes_then xs (hex_read (concat (drop i ps)))) where
+  pub pair_none : (d : List ℕ) → i < length ps → length (get_or ps i d) ≡ 2 → None ≡ hex_pair (hex_digit (get_or (get_or ps i d) 0 0)) (hex_digit (get_or (get_or ps i d) 1 0)) → None ≡ hex_read (concat ps)
+  pair_none d h two e =
+      sym (inv ∙ ap (bytes_then xs) (pair_step ps i d h two ∙ ap (λ o. byte_then o (hex_read (concat (drop (i + 1) ps)))) (sym e)))
 
-  pub pair_all : length w ≤ 2 * i → Some xs ≡ hex_read w
-  pair_all h = sym (inv ∙ ap (bytes_then xs) (at_drop_all hex_read w (2 * i) h) ∙ ap Some (append-nil xs))
+  pub pair_more : (d : List ℕ) (b : ℕ) (ys : List ℕ) → i < length ps → length (get_or ps i d) ≡ 2 → Some b ≡ hex_pair (hex_digit (get_or (get_or ps i d) 0 0)) (hex_digit (get_or (get_or ps i d) 1 0)) → ys ≡ xs ++ b ∷ [] → hex_read (concat ps) ≡ bytes_then ys (hex_read (concat (drop (i + 1) ps)))
+  pair_more d b ys h two e same =
+      inv ∙ ap (bytes_then xs) (pair_step ps i d h two ∙ ap (λ o. byte_then o (hex_read (concat (drop (i + 1) ps)))) (sym e)) ∙ one_more xs b _
+      ∙ ap (λ zs. bytes_then zs (hex_read (concat (drop (i + 1) ps)))) (sym same)
+
+  pub pair_all : length ps ≤ i → Some xs ≡ hex_read (concat ps)
+  pair_all h = sym (inv ∙ ap (bytes_then xs) (at_drop_all (λ t. hex_read (concat t)) ps i h) ∙ ap Some (append-nil xs))
+
+-- the pairs of a word are the word
+pub pairs_whole : (k : ℕ) (w : List ℕ) → length w ≡ 2 * k → concat (first_chunks 2 k w) ≡ w
+pairs_whole zero [] h = refl
+pairs_whole zero (a ∷ w) h = absurd (omega arith)
+pairs_whole (suc k) [] h = absurd (omega arith)
+pairs_whole (suc k) (a ∷ []) h = absurd (omega arith)
+pairs_whole (suc k) (a ∷ b ∷ w) h = ap (λ t. a ∷ b ∷ t) (pairs_whole k w (omega arith))
 
 -- a digit that is left over
 pub hex_odd : (w : List ℕ) (k : ℕ) → length w ≡ 2 * k + 1 → hex_read w ≡ None
@@ -66,6 +79,13 @@ hex_reads_back (b ∷ bs) h =
     let small : b < 256 = h.0 in
     let whole : b / 16 * 16 + b % 16 ≡ b = omega arith in
     rw (digit_back (b / 16) (omega arith), digit_back (b % 16) (omega arith), hex_reads_back bs h.1, whole)
+
+-- of a word without a digit left over
+pub pairs_read : (w : List ℕ) (ps : List (List ℕ)) → ps ≡ first_chunks 2 (length w / 2) w → length w % 2 ≡ 0 → hex_read (concat ps) ≡ hex_read w
+pairs_read w ps e h = ap (λ qs. hex_read (concat qs)) e ∙ ap hex_read (pairs_whole (length w / 2) w (omega arith))
+
+pub pairs_exact : (n : ℕ) (w : List ℕ) (ps : List (List ℕ)) → ps ≡ first_chunks 2 (length w / 2) w → length w % 2 ≡ 0 → length w / 2 ≡ n → hex_read (concat ps) ≡ hex_read_exact n w
+pairs_exact n w ps e h k = pairs_read w ps e h ∙ sym (cond-true _ _ _ (eq-eqb (length w) (2 * n) (omega arith)))
 
 -- the values of the n bytes from b on, with 16 for a byte that is no digit
 abbrev values_from : ℕ → ℕ → List ℕ

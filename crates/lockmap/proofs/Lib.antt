@@ -1,3 +1,2 @@
-mod Ordered
 mod Holding
 pub mod Laws

@@ -4,12 +4,11 @@ use Rattle.std.specs.Str.{bytes_eq}
 use Rattle.std.proofs.lemmas.List.{at_drop_more, at_drop_all}
 use Rattle.sheet.specs.declared.types.Payment.{Payment}
 use Rattle.account.specs.Accounts.{Standing}
-use Rattle.node_state.specs.declared.types.Terms.{Terms}
+use Rattle.schedule.specs.declared.types.Terms.{Terms}
 use Rattle.node_state.specs.Nodes.{NodeState}
 use Rattle.looking.specs.declared.types.Shown.{Shown}
-use Rattle.looking.specs.declared.keys.Keys.{Keys}
 use Rattle.looking.specs.Looking.{is_among, once, before, wanted, ins_of, near_below, keys_to_show}
-use Rattle.looking.specs.Steps.{keys_of, with_one, gathered, wanted_for}
+use Rattle.looking.specs.Steps.{with_one, gathered, wanted_for}
 
 or_false : (a : Bool) → (a || false) ≡ a
 or_false true = refl
@@ -88,10 +87,10 @@ module _ (n : NodeState) (below i : ℕ) (shown : List Shown) where
       ∙ gathered_once (wanted n below i shown (xs ++ ys)) [] [] (λ j. refl)
 
 -- The function's way: none, those of held, those of next.
-pub all_shown : (n : NodeState) (tick i : ℕ) (shown : List Shown) (a : Standing) (nextIns : List Payment) (none first second : Keys) (terms : Terms) (below : ℕ) (ins more : List Payment) → keys_of none ≡ [] → terms ≡ n.terms → below ≡ near_below terms tick → ins ≡ a.held.ins → more ≡ nextIns → ins_of a.next ≡ nextIns → keys_of first ≡ gathered (keys_of none) (wanted n below i shown ins) → keys_of second ≡ gathered (keys_of first) (wanted n below i shown more) → keys_of second ≡ keys_to_show n tick shown i a
-all_shown n tick i shown a nextIns none first second terms below ins more e0 et eb ei em en ef es =
+pub all_shown : (n : NodeState) (tick i : ℕ) (shown : List Shown) (a : Standing) (none first second : List (List ℕ)) (terms : Terms) (below : ℕ) (ins more : List Payment) → none ≡ [] → terms ≡ n.terms → below ≡ near_below terms tick → ins ≡ a.held.ins → more ≡ ins_of a.next → first ≡ gathered none (wanted n below i shown ins) → second ≡ gathered first (wanted n below i shown more) → second ≡ keys_to_show n tick shown i a
+all_shown n tick i shown a none first second terms below ins more e0 et eb ei em ef es =
     let near : below ≡ near_below n.terms tick = eb ∙ ap (λ t. near_below t tick) et in
-    all_once n below i shown ins more (keys_of first) (keys_of second) (ef ∙ ap (λ k. gathered k (wanted n below i shown ins)) e0) es
+    all_once n below i shown ins more first second (ef ∙ ap (λ k. gathered k (wanted n below i shown ins)) e0) es
     ∙ ap (λ b. once [] (wanted n b i shown (ins ++ more))) near
     ∙ ap (λ l. once [] (wanted n (near_below n.terms tick) i shown (l ++ more))) ei
-    ∙ ap (λ l. once [] (wanted n (near_below n.terms tick) i shown (a.held.ins ++ l))) (em ∙ sym en)
+    ∙ ap (λ l. once [] (wanted n (near_below n.terms tick) i shown (a.held.ins ++ l))) em

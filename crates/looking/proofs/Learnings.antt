@@ -1,5 +1,5 @@
 -- New keys, statement by statement.
-use Rattle.std.proofs.Common.{◌≡◌, ℕ, ◌+◌, ◌<◌, ◌≤◌, Bool, true, false, cond, ◌||◌, List, [], ◌∷◌, ◌++◌, length, get_or, drop, sym, refl, ap, ◌∙◌, subst}
+use Rattle.std.proofs.Common.{◌≡◌, ℕ, ◌+◌, ◌<◌, ◌≤◌, Bool, true, false, cond, ◌||◌, List, [], ◌∷◌, ◌++◌, length, get_or, drop, sym, refl, ap, ◌∙◌, subst, inl}
 use Rattle.std.proofs.lemmas.List.{drop_more, at_drop_all}
 use Rattle.digest.specs.Sha256.{sha256}
 use Rattle.judgement.specs.Tests.{has_key}
@@ -90,13 +90,13 @@ module _ (keys log after : List Act) where
   keys_failed b =
       subst (λ x. Begun log x after) (sym (synced_is keys)) (begun_first log keys (cond (is_something keys) (synced ∷ []) []) after b)
 
-  module _ (mid : List Act) (some : Bool) (first : mid ≡ extended log keys) (is : some ≡ is_something keys) where
-    pub sync_failed : Begun mid (cond some (synced ∷ []) []) after → Begun log (then_synced keys) after
-    sync_failed b =
+  module _ (mid : List Act) (first : mid ≡ extended log keys) (is : true ≡ is_something keys) where
+    pub sync_failed : after ≡ mid → Begun log (then_synced keys) after
+    sync_failed e =
         subst (λ x. Begun log x after) (sym (synced_is keys))
-        (second_failed log keys (cond (is_something keys) (synced ∷ []) []) mid after first (subst (λ x. Begun mid (cond x (synced ∷ []) []) after) is b))
+        (second_failed log keys (cond (is_something keys) (synced ∷ []) []) mid after first (subst (λ x. Begun mid (cond x (synced ∷ []) []) after) is (inl e)))
 
-    pub sync_done : after ≡ extended mid (cond some (synced ∷ []) []) → after ≡ extended log (then_synced keys)
+    pub sync_done : after ≡ mid ++ synced ∷ [] → after ≡ extended log (then_synced keys)
     sync_done e =
         both_done log keys (cond (is_something keys) (synced ∷ []) []) mid after first (e ∙ ap (λ x. extended mid (cond x (synced ∷ []) [])) is)
         ∙ ap (extended log) (sym (synced_is keys))

@@ -1,4 +1,3 @@
 pub mod Looking
 pub mod Looks
-pub mod Questions
 pub mod Steps

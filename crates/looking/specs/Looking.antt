@@ -8,7 +8,7 @@ use Rattle.digest.specs.Sha256.{sha256}
 use Rattle.change.specs.Changes.{most}
 use Rattle.account.specs.declared.types.OnItsWay.{OnItsWay}
 use Rattle.account.specs.Accounts.{Standing}
-use Rattle.node_state.specs.declared.types.Terms.{Terms}
+use Rattle.schedule.specs.declared.types.Terms.{Terms}
 use Rattle.node_state.specs.Nodes.{NodeState, with_accounts, with_key}
 use Rattle.judgement.specs.Tests.{has_key}
 use Rattle.outcome.specs.Acts.{key_is, Act, recorded, synced, shown_sheet, shown_key}

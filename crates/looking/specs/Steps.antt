@@ -1,6 +1,6 @@
 -- Parts of a look, as its functions go through them: keys gathered one by one, and acts done one after the other.
 -- Assumes nothing.
-use Rattle.std.specs.Prelude.{◌≡◌, ℕ, Bool, true, false, cond, List, [], ◌∷◌, ◌++◌, take, Some, None, Ok, Err, Option, Result, nat_lt}
+use Rattle.std.specs.Prelude.{◌≡◌, ℕ, Bool, true, false, cond, List, [], ◌∷◌, ◌++◌, Some, None, Ok, Err, Option, Result, nat_lt}
 use Rattle.sheet.specs.declared.types.Payment.{Payment}
 use Rattle.node_state.specs.Nodes.{NodeState, with_accounts}
 use Rattle.outcome.specs.declared.types.Fault.{Fault}
@@ -8,12 +8,7 @@ use Rattle.outcome.specs.Acts.{Act}
 use Rattle.outcome.specs.Logs.{extended, Begun}
 use Rattle.outcome.specs.Records.{acted_all}
 use Rattle.looking.specs.declared.types.Shown.{Shown}
-use Rattle.looking.specs.declared.keys.Keys.{Keys}
 use Rattle.looking.specs.Looking.{is_among, unshown, learned, look_taken, looked_of, each_from}
-
--- What stands past the count is left out.
-abbrev pub keys_of : Keys → List (List ℕ)
-keys_of k = take k.count k.list
 
 -- These keys with one more at the end, unless it is there or there is none.
 abbrev pub with_one : List (List ℕ) → Option (List ℕ) → List (List ℕ)

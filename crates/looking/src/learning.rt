@@ -1,9 +1,8 @@
 // New keys. What can fail for want of memory comes before the record.
-ghost use Rattle.std.specs.Prelude.{◌≡◌, [], ◌∷◌, if◌then◌else◌};
+ghost use Rattle.std.specs.Prelude.{◌≡◌, [], ◌∷◌};
 ghost use Rattle.node_state.specs.Nodes.{state_of};
-ghost use Rattle.outcome.specs.Acts.{synced};
 ghost use Rattle.looking.specs.Looking.{new_keys, learning};
-ghost use Rattle.looking.specs.Steps.{Did, Recorded, Became};
+ghost use Rattle.looking.specs.Steps.{Recorded, Became};
 
 use crate::types::Shown;
 use digest::lock;
@@ -19,9 +18,8 @@ fn record_new<O: Outside>(
 ) -> Result<bool, Fault>
     ensures { Recorded (state_of node.old) (O.log outside.old) (new_keys (state_of node.old) (statement.now ∷ [])) result (state_of node.new) (O.log outside.new) }
 {
-    let key = match *statement {
-        Shown::Key { key, .. } => key,
-        Shown::Dispute { .. } => return Ok(false),
+    let Shown::Key { key, .. } = *statement else {
+        return Ok(false);
     };
     if has_key(node, &lock(&key)) {
         return Ok(false);
@@ -37,19 +35,9 @@ fn record_all<O: Outside>(node: &mut Node, outside: &mut O, shown: &[Shown]) -> 
 {
     let mut some = false;
     for statement in shown {
-        let new = record_new(node, outside, statement)?;
-        some = some | new;
+        some |= record_new(node, outside, statement)?;
     }
     Ok(some)
-}
-
-fn sync_if<O: Outside>(outside: &mut O, applies: bool) -> Result<(), Fault>
-    ensures { Did (O.log outside.old) (if applies then synced ∷ [] else []) result (O.log outside.new) }
-{
-    if applies {
-        outside.sync()?;
-    }
-    Ok(())
 }
 
 // The new keys, synced where there was one.
@@ -60,7 +48,9 @@ pub(crate) fn learn<O: Outside>(
 ) -> Result<(), Fault>
     ensures { Became (state_of node.old) (O.log outside.old) (learning (state_of node.old) shown.now) result (state_of node.new) (O.log outside.new) }
 {
-    let some = record_all(node, outside, shown)?;
-    sync_if(outside, some)?;
+    if !record_all(node, outside, shown)? {
+        return Ok(());
+    }
+    outside.sync()?;
     Ok(())
 }

@@ -12,9 +12,9 @@ use node_state::Node;
 use outcome::{Fault, Outside};
 use refusal::Refusal;
 
+mod at;
 mod duties;
 mod gathering;
-mod keys;
 mod learning;
 mod past;
 mod showing;

@@ -1,31 +1,16 @@
 // What is shown to the register.
 ghost use Rattle.std.specs.Prelude.{◌≡◌, [], ◌∷◌, map, if◌then◌else◌};
-ghost use Rattle.sheet.specs.Contents.{content_of};
-ghost use Rattle.node_state.specs.Nodes.{state_of, account_at};
+ghost use Rattle.account.specs.Accounts.{standing_of};
+ghost use Rattle.node_state.specs.Nodes.{state_of};
 ghost use Rattle.outcome.specs.Acts.{shown_sheet, shown_key};
-ghost use Rattle.looking.specs.Looking.{showing, showing_all};
+ghost use Rattle.looking.specs.Looking.{shows_held, showing, showing_all};
 ghost use Rattle.looking.specs.Steps.{Did};
 
-use crate::duties::shows_held;
-use crate::gathering::keys_to_show;
+use crate::at::LookAt;
 use crate::types::Shown;
+use account::Account;
 use node_state::Node;
 use outcome::{Fault, Outside};
-use sheet::Sheet;
-
-fn show_sheet<O: Outside>(
-    outside: &mut O,
-    i: usize,
-    sheet: &Sheet,
-    applies: bool,
-) -> Result<(), Fault>
-    ensures { Did (O.log outside.old) (if applies then shown_sheet i (content_of sheet.now) ∷ [] else []) result (O.log outside.new) }
-{
-    if applies {
-        outside.show_sheet(i, sheet)?;
-    }
-    Ok(())
-}
 
 fn show_keys<O: Outside>(outside: &mut O, i: usize, keys: &[[u8; 32]]) -> Result<(), Fault>
     ensures { Did (O.log outside.old) (map (shown_key i) keys.now) result (O.log outside.new) }
@@ -36,22 +21,32 @@ fn show_keys<O: Outside>(outside: &mut O, i: usize, keys: &[[u8; 32]]) -> Result
     Ok(())
 }
 
-// In one account: held, and then keys.
-fn show_in<O: Outside>(
-    node: &Node,
-    outside: &mut O,
-    tick: u32,
-    i: usize,
-    shown: &[Shown],
-) -> Result<(), Fault>
-    ensures { Did (O.log outside.old) (showing (state_of node.now) tick shown.now i (account_at (state_of node.now) i)) result (O.log outside.new) }
-{
-    let account = node.account(i);
-    let applies = shows_held(&account, node.terms().delay, tick, i, shown);
-    show_sheet(outside, i, &account.held, applies)?;
-    let keys = keys_to_show(node, &account, tick, i, shown);
-    show_keys(outside, i, keys.all())?;
-    Ok(())
+impl LookAt<'_> {
+    // Held, where it has to be shown.
+    fn show_held<O: Outside>(&self, outside: &mut O, account: &Account) -> Result<(), Fault>
+        ensures { Did (O.log outside.old) (if shows_held self.now.delay self.now.tick self.now.i self.now.shown.now (standing_of account.now) then shown_sheet self.now.i (standing_of account.now).held ∷ [] else []) result (O.log outside.new) }
+    {
+        if self.shows_held(account) {
+            outside.show_sheet(self.i, &account.held)?;
+        }
+        Ok(())
+    }
+
+    // In one account: held, and then keys.
+    fn show_in<O: Outside>(
+        &self,
+        node: &Node,
+        outside: &mut O,
+        account: &Account,
+    ) -> Result<(), Fault>
+        requires { self.now.delay ≡ (state_of node.now).terms.delay }
+        ensures { Did (O.log outside.old) (showing (state_of node.now) self.now.tick self.now.shown.now self.now.i (standing_of account.now)) result (O.log outside.new) }
+    {
+        self.show_held(outside, account)?;
+        let keys = self.keys_to_show(node, account);
+        show_keys(outside, self.i, keys.as_slice())?;
+        Ok(())
+    }
 }
 
 // Account by account, from 0 up.
@@ -63,8 +58,15 @@ pub(crate) fn show_all<O: Outside>(
 ) -> Result<(), Fault>
     ensures { Did (O.log outside.old) (showing_all (state_of node.now) tick shown.now 0 (state_of node.now).accounts) result (O.log outside.new) }
 {
-    for i in 0..node.many() {
-        show_in(node, outside, tick, i, shown)?;
+    let delay = node.terms().delay;
+    for (i, account) in node.accounts().iter().enumerate() {
+        let look = LookAt {
+            i,
+            tick,
+            delay,
+            shown,
+        };
+        look.show_in(node, outside, account)?;
     }
     Ok(())
 }

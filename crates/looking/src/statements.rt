@@ -1,31 +1,21 @@
 // What the statements say of an account.
-ghost use Rattle.std.specs.Prelude.{◌≡◌};
+ghost use Rattle.std.specs.Prelude.{◌≡◌, ℕ, Bool};
 ghost use Rattle.looking.specs.Looking.{any_shown, is_dispute, is_shown_for, has_dispute, has_ended, has_reached, has_below};
-ghost use Rattle.looking.specs.Questions.{test_of};
 
-use crate::types::{Question, Shown};
+use crate::at::LookAt;
+use crate::types::Shown;
 use sheet::same_lock;
 
-fn passes(question: Question, number: u32, until: u32) -> bool
-    ensures { result ≡ test_of question number until }
-{
-    match question {
-        Question::Any => true,
-        Question::Ended { tick } => until <= tick,
-        Question::Reached { least } => least <= number,
-        Question::Below { tick, held } => tick < until && number < held,
-    }
-}
-
-fn is_dispute(statement: &Shown, i: usize, question: Question) -> bool
-    ensures { result ≡ is_dispute i (test_of question) statement.now }
+fn is_dispute<F: Fn(u32, u32) -> bool>(statement: &Shown, i: usize, passes: &F) -> bool
+    requires { F.IsAlwaysCallable passes.now }
+    ensures { (test : ℕ → ℕ → Bool) → ((number until : ℕ) (r : Bool) → F.post passes.now number until r → r ≡ test number until) → result ≡ is_dispute i test statement.now }
 {
     match *statement {
         Shown::Dispute {
             account,
             number,
             until,
-        } => account as usize == i && passes(question, number, until),
+        } => account as usize == i && passes(number, until),
         Shown::Key { .. } => false,
     }
 }
@@ -43,53 +33,50 @@ fn is_shown_for(statement: &Shown, i: usize, key: &[u8; 32]) -> bool
     }
 }
 
-// Is there a dispute for account i of which the answer is yes.
-fn any_dispute(shown: &[Shown], i: usize, question: Question) -> bool
-    ensures { result ≡ any_shown (is_dispute i (test_of question)) shown.now }
-{
-    for statement in shown {
-        if is_dispute(statement, i, question) {
-            return true;
-        }
+impl LookAt<'_> {
+    // Is there a dispute with a number and an end that pass.
+    fn any_dispute<F: Fn(u32, u32) -> bool>(&self, passes: F) -> bool
+        requires { F.IsAlwaysCallable passes }
+        ensures { (test : ℕ → ℕ → Bool) → ((number until : ℕ) (r : Bool) → F.post passes number until r → r ≡ test number until) → result ≡ any_shown (is_dispute self.now.i test) self.now.shown.now }
+    {
+        self.shown
+            .iter()
+            .any(|statement| is_dispute(statement, self.i, &passes))
     }
-    false
-}
 
-// Was the key shown for account i.
-pub(crate) fn is_shown(shown: &[Shown], i: usize, key: &[u8; 32]) -> bool
-    ensures { result ≡ any_shown (is_shown_for i key.now) shown.now }
-{
-    for statement in shown {
-        if is_shown_for(statement, i, key) {
-            return true;
-        }
+    // Was the key shown.
+    pub(crate) fn is_shown(&self, key: &[u8; 32]) -> bool
+        ensures { result ≡ any_shown (is_shown_for self.now.i key.now) self.now.shown.now }
+    {
+        self.shown
+            .iter()
+            .any(|statement| is_shown_for(statement, self.i, key))
     }
-    false
-}
 
-pub(crate) fn has_dispute(shown: &[Shown], i: usize) -> bool
-    ensures { result ≡ has_dispute i shown.now }
-{
-    any_dispute(shown, i, Question::Any)
-}
+    pub(crate) fn has_dispute(&self) -> bool
+        ensures { result ≡ has_dispute self.now.i self.now.shown.now }
+    {
+        self.any_dispute(|_, _| true)
+    }
 
-// One that has ended at the tick.
-pub(crate) fn has_ended(shown: &[Shown], i: usize, tick: u32) -> bool
-    ensures { result ≡ has_ended tick i shown.now }
-{
-    any_dispute(shown, i, Question::Ended { tick })
-}
+    // One that has ended at the tick.
+    pub(crate) fn has_ended(&self) -> bool
+        ensures { result ≡ has_ended self.now.tick self.now.i self.now.shown.now }
+    {
+        self.any_dispute(|_, until| until <= self.tick)
+    }
 
-// One that shows this number or a higher one.
-pub(crate) fn has_reached(shown: &[Shown], i: usize, least: u32) -> bool
-    ensures { result ≡ has_reached i least shown.now }
-{
-    any_dispute(shown, i, Question::Reached { least })
-}
+    // One that shows this number or a higher one.
+    pub(crate) fn has_reached(&self, least: u32) -> bool
+        ensures { result ≡ has_reached self.now.i least self.now.shown.now }
+    {
+        self.any_dispute(|number, _| least <= number)
+    }
 
-// One that is open at the tick and shows a number below this.
-pub(crate) fn has_below(shown: &[Shown], i: usize, tick: u32, held: u32) -> bool
-    ensures { result ≡ has_below tick i held shown.now }
-{
-    any_dispute(shown, i, Question::Below { tick, held })
+    // One that is open at the tick and shows a number below this.
+    pub(crate) fn has_below(&self, held: u32) -> bool
+        ensures { result ≡ has_below self.now.tick self.now.i held self.now.shown.now }
+    {
+        self.any_dispute(|number, until| self.tick < until && number < held)
+    }
 }

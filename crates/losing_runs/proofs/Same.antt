@@ -8,7 +8,7 @@ use Rattle.sheet.specs.Contents.{Content, content_of, first_of}
 use Rattle.digest.specs.Sha256.{sha256}
 use Rattle.change.specs.Changes.{most}
 use Rattle.account.specs.Accounts.{Standing, opened_of}
-use Rattle.node_state.specs.declared.types.Terms.{Terms}
+use Rattle.schedule.specs.declared.types.Terms.{Terms}
 use Rattle.node_state.specs.Nodes.{NodeState, account_at, with_accounts, with_key}
 use Rattle.judgement.specs.Tests.{is_under_way, has_key}
 use Rattle.judgement.specs.Judgements.{to_accept_both}

@@ -1,7 +1,7 @@
 -- The world of a run in which the node may do otherwise than the rules say: its conduct is a parameter. Assumes nothing.
 use Rattle.std.specs.Prelude.{◌≡◌, ℕ, ◌+◌, cond, List, [], ◌∷◌, take}
 use Rattle.std.specs.List.{slice_get}
-use Rattle.node_state.specs.declared.types.Terms.{Terms}
+use Rattle.schedule.specs.declared.types.Terms.{Terms}
 use Rattle.node_state.specs.Nodes.{NodeState}
 use Rattle.outcome.specs.Acts.{Act, recorded, synced, sent_sheet, sent_signature, shown_sheet, shown_key}
 use Rattle.outcome.specs.Records.{written, acted_all}

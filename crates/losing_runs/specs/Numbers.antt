@@ -1,7 +1,7 @@
 -- Why the numbers that are agreed on are as they are: with a smaller window, or a smaller gap, the node of the rules loses.
 -- Assumes nothing.
 use Rattle.std.specs.Prelude.{ℕ, ◌<◌, List, [], ◌∷◌, ◌++◌, length}
-use Rattle.node_state.specs.declared.types.Terms.{Terms}
+use Rattle.schedule.specs.declared.types.Terms.{Terms}
 use Rattle.rules.specs.declared.types.Message.TheVariants.{Key}
 use Rattle.looking.specs.declared.types.Shown.TheVariants.{Dispute}
 use Rattle.looking.specs.declared.types.Shown.TheVariants as statement

@@ -7,7 +7,7 @@ use Rattle.change.specs.declared.types.Change.TheVariants.{Offered, PassingOn, P
 use Rattle.change.specs.Totals.{amounts, total_of}
 use Rattle.change.proofs.Standing.{none_some}
 use Rattle.lockmap.specs.Maps.{with_at}
-use Rattle.node_state.specs.declared.types.Terms.{Terms}
+use Rattle.schedule.specs.declared.types.Terms.{Terms}
 use Rattle.node_state.specs.Nodes.{NodeState, account_at, with_accounts}
 use Rattle.outcome.specs.Acts.{both_in}
 use Rattle.outcome.specs.Records.{written}

@@ -9,7 +9,7 @@ use Rattle.change.specs.Follows.{Follows}
 use Rattle.change.specs.Totals.{total_of}
 use Rattle.change.proofs.Standing.{none_some, same_some}
 use Rattle.change.proofs.Same.{following, keeps_total}
-use Rattle.node_state.specs.declared.types.Terms.{Terms}
+use Rattle.schedule.specs.declared.types.Terms.{Terms}
 use Rattle.node_state.specs.declared.types.Route.{Route}
 use Rattle.node_state.specs.Nodes.{NodeState, account_at}
 use Rattle.moments.specs.Runs.{Deposit, deposit_at}

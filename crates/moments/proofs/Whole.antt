@@ -8,7 +8,7 @@ use Rattle.sheet.specs.Contents.{Content}
 use Rattle.account.specs.Accounts.{signed_of, held_of}
 use Rattle.change.specs.declared.types.Change.TheVariants.{Offered, PassingOn, Paying, Getting, Returned, GivingUp}
 use Rattle.lockmap.specs.Maps.{with_at}
-use Rattle.node_state.specs.declared.types.Terms.{Terms}
+use Rattle.schedule.specs.declared.types.Terms.{Terms}
 use Rattle.node_state.specs.declared.types.Route.{Route}
 use Rattle.node_state.specs.Nodes.{NodeState, account_at}
 use Rattle.judgement.specs.Tests.{has_key}

@@ -4,7 +4,7 @@ use Rattle.std.proofs.Common.{arith}
 use Rattle.digest.specs.Sha256.{sha256}
 use Rattle.sheet.specs.declared.types.Payment.{Payment}
 use Rattle.sheet.specs.declared.types.Sheet.{Sheet}
-use Rattle.node_state.specs.declared.types.Terms.{Terms}
+use Rattle.schedule.specs.declared.types.Terms.{Terms}
 use Rattle.node_state.specs.Nodes.{NodeState, account_at}
 use Rattle.rules.specs.declared.types.Message.TheVariants.{ProposedSigned, Signed, Key}
 use Rattle.rules.specs.declared.types.Call.TheVariants.{Pass, Pay, Get}

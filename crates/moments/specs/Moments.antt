@@ -6,7 +6,7 @@ use Rattle.sheet.specs.Contents.{Content}
 use Rattle.account.specs.Accounts.{Standing}
 use Rattle.change.specs.Follows.{NotAmong}
 use Rattle.change.specs.Totals.{total_of}
-use Rattle.node_state.specs.declared.types.Terms.{Terms}
+use Rattle.schedule.specs.declared.types.Terms.{Terms}
 use Rattle.node_state.specs.declared.types.Route.{Route}
 use Rattle.node_state.specs.Nodes.{NodeState, account_at}
 use Rattle.judgement.specs.Tests.{has_key}

@@ -1,7 +1,7 @@
 -- The node's file: after any stop the node is what its records say. Assumes nothing.
 use Rattle.std.specs.Prelude.{◌≡◌, ℕ, ◌⊎◌, List, [], ◌∷◌, ◌++◌, take}
 use Rattle.sheet.specs.Contents.{Content}
-use Rattle.node_state.specs.declared.types.Terms.{Terms}
+use Rattle.schedule.specs.declared.types.Terms.{Terms}
 use Rattle.node_state.specs.Nodes.{NodeState}
 use Rattle.outcome.specs.Acts.{Record, signed_in, passed_on, Act, recorded, synced, sent_sheet, sent_signature, shown_sheet, shown_key}
 use Rattle.outcome.specs.Records.{written, acted_all}

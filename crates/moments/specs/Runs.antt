@@ -3,7 +3,7 @@ use Rattle.std.specs.Prelude.{ℕ, ◌+◌, Bool, false, ◌||◌, List, [], ◌
 use Rattle.sheet.specs.Contents.{first_of}
 use Rattle.account.specs.declared.types.OnItsWay.{OnItsWay}
 use Rattle.account.specs.Accounts.{Standing, opened_of}
-use Rattle.node_state.specs.declared.types.Terms.{Terms}
+use Rattle.schedule.specs.declared.types.Terms.{Terms}
 use Rattle.node_state.specs.Nodes.{NodeState, with_accounts}
 use Rattle.outcome.specs.Acts.{Act}
 use Rattle.outcome.specs.Records.{acted_all}

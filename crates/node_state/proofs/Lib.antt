@@ -1,2 +1,1 @@
-mod Standings
 mod Anywhere

@@ -1,10 +1,10 @@
 -- What the node keeps, and how that changes. Assumes nothing.
-use Rattle.std.specs.Prelude.{ℕ, Bool, true, false, cond, ◌||◌, List, [], ◌∷◌, ◌++◌, map, length, take, None, Option, nat_lt, slice_index_or, slice_set}
+use Rattle.std.specs.Prelude.{ℕ, Bool, true, false, cond, ◌||◌, List, [], ◌∷◌, ◌++◌, map, length, None, Option, nat_lt, slice_index_or, slice_set}
 use Rattle.sheet.specs.declared.types.Payment.{Payment}
 use Rattle.sheet.specs.Contents.{Content, first_of}
 use Rattle.account.specs.Accounts.{Standing, standing_of, opened_of, on_either}
 use Rattle.lockmap.specs.Maps.{lookup, with_at}
-use Rattle.node_state.specs.declared.types.Terms.{Terms}
+use Rattle.schedule.specs.declared.types.Terms.{Terms}
 use Rattle.node_state.specs.declared.types.Route.{Route}
 use Rattle.node_state.specs.declared.node.Node.{Node}
 
@@ -15,10 +15,10 @@ pub record NodeState : Type 0 where
   pub key_of : List ℕ → Option (List ℕ)
   pub route_of : List ℕ → Option Route
 
--- What stands past the count is left out.
+-- What the fields of a node mean.
 abbrev pub state_of : Node → NodeState
 state_of n =
-    record { terms = n.terms; accounts = map standing_of (take n.count n.accounts); key_of = lookup n.keys; route_of = lookup n.routes }
+    record { terms = n.terms; accounts = map standing_of n.accounts.items; key_of = lookup n.keys; route_of = lookup n.routes }
 
 -- The account with a number; of no matter where there is none.
 abbrev pub account_at : NodeState → ℕ → Standing

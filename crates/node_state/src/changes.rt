@@ -4,9 +4,10 @@ ghost use Rattle.account.specs.Accounts.{standing_of};
 ghost use Rattle.node_state.specs.Nodes.{state_of, empty_of, with_accounts, with_opened, with_account, with_key, with_route};
 
 use crate::node::Node;
-use crate::types::{Route, Terms};
+use crate::types::Route;
 use account::Account;
 use lockmap::LockMap;
+use schedule::Terms;
 use sheet::Sheet;
 use std::alloc::{AllocError, Global};
 
@@ -15,15 +16,11 @@ impl Node {
     pub fn new(heap: Global, terms: Terms) -> Result<Node, AllocError>
         ensures { IfOk result (λ n. state_of n ≡ empty_of terms) }
     {
-        let nothing = Account::opened(Sheet::first(0, 0, 0));
-        let keys = LockMap::new(heap)?;
-        let routes = LockMap::new(heap)?;
         Ok(Node {
             terms,
-            accounts: [nothing; 16],
-            count: 0,
-            keys,
-            routes,
+            accounts: Vec::with_capacity(heap, 16)?,
+            keys: LockMap::new(heap)?,
+            routes: LockMap::new(heap)?,
         })
     }
 
@@ -35,25 +32,17 @@ impl Node {
         if many >= 16 {
             return false;
         }
-        self.add(Account::opened(Sheet::first(many as u8, own, theirs)));
+        self.accounts
+            .push_reserved(Account::opened(Sheet::first(many as u8, own, theirs)));
         true
-    }
-
-    // One account more, which is the last.
-    fn add(&mut self, account: Account)
-        requires { self.old.count < 16 }
-        ensures { state_of self.new ≡ with_accounts (state_of self.old) ((state_of self.old).accounts ++ standing_of account ∷ []) }
-    {
-        self.accounts[self.count] = account;
-        self.count += 1;
     }
 
     // The account with a number is this one from now on; nothing changes where there is none.
     pub fn put(&mut self, i: usize, account: Account)
         ensures { state_of self.new ≡ with_account (state_of self.old) i (standing_of account) }
     {
-        if i < self.count {
-            self.accounts[i] = account;
+        if let Some(place) = self.accounts.get_mut(i) {
+            *place = account;
         }
     }
 

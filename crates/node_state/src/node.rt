@@ -1,18 +1,19 @@
-// What a node keeps. What stands in the array past the count is of no matter.
-ghost use Rattle.std.specs.Prelude.{◌≡◌, ◌≤◌, length};
+// What a node keeps.
+ghost use Rattle.std.specs.Prelude.{◌≤◌, vec_len, vec_capacity};
 
-use crate::types::{Route, Terms};
+use crate::types::Route;
 use account::Account;
 use lockmap::LockMap;
+use schedule::Terms;
 
-// Keys by their lock; locks that were passed on, with the accounts from and to.
+// Up to 16 accounts, for which there is room from the start; keys by their lock; locks that were passed on, with the
+// accounts from and to.
 #[derive(Drop)]
 pub struct Node {
     pub(crate) terms: Terms,
-    pub(crate) accounts: [Account; 16],
-    pub(crate) count: usize,
+    pub(crate) accounts: Vec<Account>,
     pub(crate) keys: LockMap<[u8; 32]>,
     pub(crate) routes: LockMap<Route>,
-    ghost few: { count ≤ 16 },
-    ghost whole: { length accounts ≡ 16 },
+    ghost few: { vec_len accounts ≤ 16 },
+    ghost room: { 16 ≤ vec_capacity accounts },
 }

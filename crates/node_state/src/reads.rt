@@ -4,33 +4,10 @@ ghost use Rattle.account.specs.Accounts.{standing_of};
 ghost use Rattle.node_state.specs.Nodes.{state_of, account_at, any_has};
 
 use crate::node::Node;
-use crate::types::{Route, Terms};
+use crate::types::Route;
 use account::Account;
+use schedule::Terms;
 use sheet::Sheet;
-
-// Does one of the accounts have an in with the lock.
-fn any_in(accounts: &[Account], lock: &[u8; 32]) -> bool
-    ensures { result ≡ any_has (λ s. s.ins) (map standing_of accounts.now) lock.now }
-{
-    for account in accounts {
-        if account.has_in(lock) {
-            return true;
-        }
-    }
-    false
-}
-
-// Does one of the accounts have an out with the lock.
-fn any_out(accounts: &[Account], lock: &[u8; 32]) -> bool
-    ensures { result ≡ any_has (λ s. s.outs) (map standing_of accounts.now) lock.now }
-{
-    for account in accounts {
-        if account.has_out(lock) {
-            return true;
-        }
-    }
-    false
-}
 
 impl Node {
     pub fn terms(&self) -> Terms
@@ -43,19 +20,26 @@ impl Node {
     pub fn many(&self) -> usize
         ensures value { result ≡ length (state_of self.now).accounts }
         ensures few { result ≤ 16 }
-        ensures count { result ≡ self.now.count }
     {
-        self.count
+        self.accounts.len()
+    }
+
+    // The accounts, by their numbers.
+    pub fn accounts(&self) -> &[Account]
+        ensures value { map standing_of result.now ≡ (state_of self.now).accounts }
+        ensures few { length result.now ≤ 16 }
+    {
+        &self.accounts
     }
 
     // The account with a number; one with nothing in it where there is none.
     pub fn account(&self, i: usize) -> Account
         ensures { standing_of result ≡ account_at (state_of self.now) i }
     {
-        if i >= self.count {
-            return Account::opened(Sheet::first(0, 0, 0));
+        match self.accounts.get(i) {
+            Some(account) => *account,
+            None => Account::opened(Sheet::first(0, 0, 0)),
         }
-        self.accounts[i]
     }
 
     pub fn key_of(&self, lock: &[u8; 32]) -> Option<[u8; 32]>
@@ -74,13 +58,13 @@ impl Node {
     pub fn has_in(&self, lock: &[u8; 32]) -> bool
         ensures { result ≡ any_has (λ s. s.ins) (state_of self.now).accounts lock.now }
     {
-        any_in(&self.accounts[0..self.count], lock)
+        self.accounts.iter().any(|account| account.has_in(lock))
     }
 
     // Is the lock in an out of a sheet that may count, of any account.
     pub fn has_out(&self, lock: &[u8; 32]) -> bool
         ensures { result ≡ any_has (λ s. s.outs) (state_of self.now).accounts lock.now }
     {
-        any_out(&self.accounts[0..self.count], lock)
+        self.accounts.iter().any(|account| account.has_out(lock))
     }
 }

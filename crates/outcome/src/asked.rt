@@ -20,6 +20,7 @@ pub fn sign<O: Outside>(
 ) -> Result<Result<(), Refusal>, Fault>
     ensures { CarriedOut (signing i (on_content next)) (state_of node.old) (O.log outside.old) result (state_of node.new) (O.log outside.new) }
 {
+    // Not shared by a closure: what it borrowed would not be known once it was called.
     let sheet = match next {
         Ok(sheet) => sheet,
         Err(refusal) => return Ok(Err(refusal)),
@@ -42,6 +43,7 @@ pub fn pass_on<O: Outside>(
 ) -> Result<Result<(), Refusal>, Fault>
     ensures { CarriedOut (passing from to lock.now (on_content next)) (state_of node.old) (O.log outside.old) result (state_of node.new) (O.log outside.new) }
 {
+    // Not shared by a closure: what it borrowed would not be known once it was called.
     let sheet = match next {
         Ok(sheet) => sheet,
         Err(refusal) => return Ok(Err(refusal)),

@@ -14,6 +14,7 @@ mod taken;
 mod types;
 
 pub use asked::{pass_on, sign};
+pub use notes::{note_both, note_signed};
 pub use outside::Outside;
 pub use proposed::{accept, accept_both};
 pub use taken::{hold, learn};

@@ -20,6 +20,7 @@ pub fn accept<O: Outside>(
 ) -> Result<Result<(), Refusal>, Fault>
     ensures { CarriedOut (accepting i (on_content next)) (state_of node.old) (O.log outside.old) result (state_of node.new) (O.log outside.new) }
 {
+    // Not shared by a closure: what it borrowed would not be known once it was called.
     let proposed = match next {
         Ok(proposed) => proposed,
         Err(refusal) => return Ok(Err(refusal)),
@@ -40,6 +41,7 @@ pub fn accept_both<O: Outside>(
 ) -> Result<Result<(), Refusal>, Fault>
     ensures { CarriedOut (accepting_both i (on_content next)) (state_of node.old) (O.log outside.old) result (state_of node.new) (O.log outside.new) }
 {
+    // Not shared by a closure: what it borrowed would not be known once it was called.
     let sheet = match next {
         Ok(sheet) => sheet,
         Err(refusal) => return Ok(Err(refusal)),

@@ -21,6 +21,7 @@ pub fn hold<O: Outside>(
 ) -> Result<Result<(), Refusal>, Fault>
     ensures { CarriedOut (holding i (on_content next)) (state_of node.old) (O.log outside.old) result (state_of node.new) (O.log outside.new) }
 {
+    // Not shared by a closure: what it borrowed would not be known once it was called.
     let sheet = match next {
         Ok(sheet) => sheet,
         Err(refusal) => return Ok(Err(refusal)),

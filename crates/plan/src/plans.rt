@@ -22,10 +22,8 @@ impl Plan {
     fn add(&mut self, act: Act) -> Result<(), Fault>
         ensures { plan_of self.new ≡ grown result (plan_of self.old) (act_of act) }
     {
-        match self.acts.push(act) {
-            Ok(()) => Ok(()),
-            Err(_) => Err(Fault::Memory),
-        }
+        self.acts.push(act)?;
+        Ok(())
     }
 }
 

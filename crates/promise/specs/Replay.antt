@@ -1,6 +1,6 @@
 -- The node in the world is a node by itself: what time and the register add is no other way to change it. Assumes nothing.
 use Rattle.std.specs.Prelude.{◌≡◌, List}
-use Rattle.node_state.specs.declared.types.Terms.{Terms}
+use Rattle.schedule.specs.declared.types.Terms.{Terms}
 use Rattle.moments.specs.Runs as alone
 use Rattle.moments.specs.Runs.{Deposit, start_of}
 use Rattle.promise.specs.World.{Event, world_after}

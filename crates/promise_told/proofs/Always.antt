@@ -1,7 +1,7 @@
 -- The invariant about time holds in every run; so the promise does.
 use Rattle.std.proofs.Common.{List, [], ◌∷◌, sym, refl, ap, ◌∙◌, subst}
 use Rattle.std.proofs.lemmas.Bool.{cond_both}
-use Rattle.node_state.specs.declared.types.Terms.{Terms}
+use Rattle.schedule.specs.declared.types.Terms.{Terms}
 use Rattle.moments.specs.Runs.{Deposit, History, start_of}
 use Rattle.moments.proofs.Whole.{Whole}
 use Rattle.moments.proofs.Theorems.{run_whole, passed_on_pays, no_lock_twice}

@@ -8,7 +8,7 @@ use Rattle.sheet.specs.declared.types.Payment.{Payment}
 use Rattle.sheet.specs.Contents.{Content}
 use Rattle.digest.specs.Sha256.{sha256}
 use Rattle.account.specs.Accounts.{Standing}
-use Rattle.node_state.specs.declared.types.Terms.{Terms}
+use Rattle.schedule.specs.declared.types.Terms.{Terms}
 use Rattle.node_state.specs.Nodes.{NodeState, account_at}
 use Rattle.outcome.specs.Acts.{signed_in, both_in, passed_on, key_is, Act, recorded, synced, sent_sheet, sent_signature, shown_sheet, shown_key}
 use Rattle.outcome.specs.Records.{acted_all, written}

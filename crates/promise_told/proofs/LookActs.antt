@@ -8,7 +8,7 @@ use Rattle.sheet.specs.Contents.{Content, first_of}
 use Rattle.digest.specs.Sha256.{sha256}
 use Rattle.lockmap.specs.Maps.{with_at}
 use Rattle.account.specs.Accounts.{Standing, opened_of}
-use Rattle.node_state.specs.declared.types.Terms.{Terms}
+use Rattle.schedule.specs.declared.types.Terms.{Terms}
 use Rattle.node_state.specs.Nodes.{NodeState, account_at, with_key}
 use Rattle.judgement.specs.Tests.{has_key}
 use Rattle.outcome.specs.Acts.{signed_in, both_in, passed_on, key_is, Act, recorded, synced, sent_sheet, sent_signature, shown_sheet, shown_key}

@@ -8,7 +8,7 @@ use Rattle.change.specs.Changes.{most}
 use Rattle.refusal.specs.declared.Refusal.TheVariants.{Unreadable, TooLarge}
 use Rattle.account.specs.declared.types.OnItsWay.{OnItsWay}
 use Rattle.account.specs.Accounts.{Standing, is_frozen, opened_of}
-use Rattle.node_state.specs.declared.types.Terms.{Terms}
+use Rattle.schedule.specs.declared.types.Terms.{Terms}
 use Rattle.node_state.specs.declared.types.Route.{Route}
 use Rattle.node_state.specs.Nodes.{NodeState, account_at, with_accounts}
 use Rattle.judgement.specs.Tests.{has_key}

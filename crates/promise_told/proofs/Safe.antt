@@ -8,7 +8,7 @@ use Rattle.sheet.specs.Contents.{Content, first_of}
 use Rattle.digest.specs.Sha256.{sha256}
 use Rattle.account.specs.declared.types.OnItsWay.{OnItsWay}
 use Rattle.account.specs.Accounts.{Standing, is_frozen, opened_of}
-use Rattle.node_state.specs.declared.types.Terms.{Terms}
+use Rattle.schedule.specs.declared.types.Terms.{Terms}
 use Rattle.node_state.specs.Nodes.{account_at}
 use Rattle.looking.specs.Looking.{any_past, past_on, past_on_next, is_past}
 use Rattle.register.specs.Register.{Phase, quiet, disputed, ended, KeyAt, Page, ended_by, with_sheet, sheet_shown, key_shown, with_key_at}

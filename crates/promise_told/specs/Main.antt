@@ -4,7 +4,7 @@ use Rattle.sheet.specs.declared.types.Payment.{Payment}
 use Rattle.sheet.specs.Contents.{Content}
 use Rattle.digest.specs.Sha256.{sha256}
 use Rattle.account.specs.Accounts.{Standing}
-use Rattle.node_state.specs.declared.types.Terms.{Terms}
+use Rattle.schedule.specs.declared.types.Terms.{Terms}
 use Rattle.node_state.specs.Nodes.{account_at}
 use Rattle.register.specs.Register.{Phase, quiet, disputed, ended, KeyAt, payout_of, is_settled}
 use Rattle.moments.specs.Runs.{Deposit}

@@ -1,7 +1,7 @@
 -- The node in the world is a node by itself: what time and the register add is no other way to change it; and its file says
 -- what it is after a stop. Assumes nothing.
 use Rattle.std.specs.Prelude.{◌≡◌, cond, List, [], ◌∷◌, ◌++◌, take}
-use Rattle.node_state.specs.declared.types.Terms.{Terms}
+use Rattle.schedule.specs.declared.types.Terms.{Terms}
 use Rattle.outcome.specs.Acts.{Record}
 use Rattle.moments.specs.Runs as alone
 use Rattle.moments.specs.Runs.{Deposit, outcome_of, started_again, start_of}

@@ -1,5 +1,3 @@
-mod ByKind
 mod Turns
 mod Again
 mod Deposits
-mod Endings

@@ -1,12 +1,11 @@
 -- What a start makes of a file. Assumes nothing.
 use Rattle.std.specs.Prelude.{◌≡◌, ℕ, zero, suc, ◌+◌, Bool, false, cond, not, ◌||◌, List, length, drop, Ok, Err, Result}
-use Rattle.node_state.specs.declared.types.Terms.{Terms}
+use Rattle.schedule.specs.declared.types.Terms.{Terms}
 use Rattle.node_state.specs.Nodes.{NodeState, state_of, empty_of}
 use Rattle.journal.specs.Records.{Outcome, whole_record, short_record, damaged_record, record_read}
 use Rattle.replay.specs.declared.types.StartFault.{StartFault}
 use Rattle.replay.specs.declared.types.StartFault.TheVariants.{Memory, Damaged}
 use Rattle.replay.specs.declared.types.Replayed.{Replayed}
-use Rattle.replay.specs.declared.types.Reached.{Reached}
 use Rattle.replay.specs.Fits.{fits, is_first}
 use Rattle.replay.specs.Takes.{taken}
 
@@ -32,14 +31,12 @@ progress_from (suc turns) bs at others n = progress_after (progress_from turns b
 unfoldable pub progress_of : NodeState → List ℕ → Result Progress ℕ
 progress_of n bs = progress_from (length bs) bs 0 false n
 
--- What the code gives, where the node was `n`, and is `m` then.
-abbrev pub GoneThrough : NodeState → List ℕ → Result Reached StartFault → NodeState → Type 0
-GoneThrough n bs (Ok got) m = progress_of n bs ≡ Ok (record { whole = got.whole; others = got.others; node = m })
-GoneThrough n bs (Err Memory) m = Unit {0}
-GoneThrough n bs (Err (Damaged at)) m = progress_of n bs ≡ Err at
+-- What the code gives, where the node was `n`; where memory runs out nothing is said.
+abbrev pub GoneThrough : NodeState → List ℕ → Result Replayed StartFault → Type 0
+GoneThrough n bs (Ok got) = progress_of n bs ≡ Ok (record { whole = got.whole; others = got.others; node = state_of got.node })
+GoneThrough n bs (Err Memory) = Unit {0}
+GoneThrough n bs (Err (Damaged at)) = progress_of n bs ≡ Err at
 
--- A start with nothing but the terms; where memory runs out nothing is said.
+-- A start with nothing but the terms.
 abbrev pub Started : Terms → List ℕ → Result Replayed StartFault → Type 0
-Started terms bs (Ok got) = progress_of (empty_of terms) bs ≡ Ok (record { whole = got.whole; others = got.others; node = state_of got.node })
-Started terms bs (Err Memory) = Unit {0}
-Started terms bs (Err (Damaged at)) = progress_of (empty_of terms) bs ≡ Err at
+Started terms bs result = GoneThrough (empty_of terms) bs result

@@ -1,17 +1,16 @@
 // Whether a record can be one that the node wrote at its place.
-ghost use Rattle.std.specs.Prelude.{◌≡◌, is_some};
+ghost use Rattle.std.specs.Prelude.{◌≡◌};
 ghost use Rattle.sheet.specs.Contents.{content_of};
-ghost use Rattle.account.specs.Accounts.{standing_of};
-ghost use Rattle.proposal.specs.Sames.{same_content};
 ghost use Rattle.node_state.specs.Nodes.{state_of};
-ghost use Rattle.replay.specs.Fits.{fits_first, fits_account, fits_signed, is_next, fits_both, fits_passed};
+ghost use Rattle.journal.specs.Readings.{record_of};
+ghost use Rattle.replay.specs.Fits.{fits_first, fits_account, fits_signed, fits_both, fits_passed, fits};
 
-use crate::totals::total;
-use account::{Account, Next};
+use change::total;
+use journal::Record;
 use node_state::Node;
 use sheet::Sheet;
 
-pub(crate) fn fits_first(node: &Node, others: bool, sheet: &Sheet) -> bool
+fn fits_first(node: &Node, others: bool, sheet: &Sheet) -> bool
     ensures { result ≡ fits_first (content_of sheet.now) others (state_of node.now) }
 {
     !others
@@ -30,51 +29,44 @@ fn fits_account(node: &Node, sheet: &Sheet) -> bool
     (i < node.many()) & (total(sheet) == total(&node.account(i).held))
 }
 
-fn has_next(account: &Account) -> bool
-    ensures { result ≡ is_some (standing_of account.now).next }
-{
-    match account.next {
-        Next::Sent => true,
-        Next::Nothing => false,
-    }
-}
-
-pub(crate) fn fits_signed(node: &Node, sheet: &Sheet) -> bool
+fn fits_signed(node: &Node, sheet: &Sheet) -> bool
     ensures { result ≡ fits_signed (content_of sheet.now) (state_of node.now) }
 {
     let account = node.account(usize::from(sheet.account));
     fits_account(node, sheet)
-        & !has_next(&account)
+        & account.under_way().is_none()
         & (u64::from(sheet.number) == u64::from(account.held.number) + 1)
 }
 
-fn same_sheet(a: &Sheet, b: &Sheet) -> bool
-    ensures { result ≡ same_content (content_of a.now) (content_of b.now) }
-{
-    *a == *b
-}
-
-fn is_next(account: &Account, sheet: &Sheet) -> bool
-    ensures { result ≡ is_next (standing_of account.now).next (content_of sheet.now) }
-{
-    match account.next {
-        Next::Sent => same_sheet(&account.next_sheet, sheet),
-        Next::Nothing => false,
-    }
-}
-
-pub(crate) fn fits_both(node: &Node, sheet: &Sheet) -> bool
+fn fits_both(node: &Node, sheet: &Sheet) -> bool
     ensures { result ≡ fits_both (content_of sheet.now) (state_of node.now) }
 {
     let account = node.account(usize::from(sheet.account));
-    fits_account(node, sheet) & is_next(&account, sheet)
+    fits_account(node, sheet) & account.under_way().is_some_and(|next| *next == *sheet)
 }
 
-pub(crate) fn fits_passed(node: &Node, lock: &[u8; 32], from: u8, to: u8) -> bool
+fn fits_passed(node: &Node, lock: &[u8; 32], from: u8, to: u8) -> bool
     ensures { result ≡ fits_passed lock.now from to (state_of node.now) }
 {
     (usize::from(from) < node.many())
         & (usize::from(to) < node.many())
         & (from != to)
         & node.route_of(lock).is_none()
+}
+
+pub(crate) fn fits(node: &Node, others: bool, record: &Record) -> bool
+    ensures { result ≡ fits (record_of «record».now) others (state_of node.now) }
+{
+    match record {
+        Record::Signed(sheet) => fits_signed(node, sheet),
+        Record::Both(sheet) => {
+            if sheet.number == 0 {
+                fits_first(node, others, sheet)
+            } else {
+                fits_both(node, sheet)
+            }
+        }
+        Record::Passed { lock, from, to } => fits_passed(node, lock, *from, *to),
+        Record::Key(_) => true,
+    }
 }

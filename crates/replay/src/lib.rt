@@ -8,14 +8,14 @@ ghost use Rattle.node_state.specs.Nodes.{state_of};
 ghost use Rattle.replay.specs.Starts.{Started};
 ghost use Rattle.replay.specs.Theorems.{ByRecords, CutAnywhere, AsWritten, DepositsStay};
 
-use node_state::{Node, Terms};
+use node_state::Node;
+use schedule::Terms;
 use std::alloc::Global;
 
 mod faults;
 mod fitting;
 mod replaying;
 mod taking;
-mod totals;
 mod types;
 
 pub use types::{Replayed, StartFault};
@@ -26,15 +26,7 @@ pub fn replay(heap: Global, terms: Terms, bytes: &[u8]) -> Result<Replayed, Star
     ensures within { IfOk result (λ got. got.whole ≤ length bytes.now) }
     ensures firsts { IfOk result (λ got. got.firsts ≡ length (state_of got.node).accounts) }
 {
-    let mut node = Node::new(heap, terms)?;
-    let reached = replaying::go_through(&mut node, bytes)?;
-    let firsts = node.many();
-    Ok(Replayed {
-        node,
-        whole: reached.whole,
-        firsts,
-        others: reached.others,
-    })
+    replaying::go_through(Node::new(heap, terms)?, bytes)
 }
 
 // The theorems that a start goes by the file's whole records, that it finds a first part of what was written wherever the file

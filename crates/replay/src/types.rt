@@ -17,10 +17,3 @@ pub enum StartFault {
     Memory,
     Damaged { at: usize },
 }
-
-// How far the records of a file reach, and whether one is other than a first sheet.
-#[derive(Clone, Copy)]
-pub(crate) struct Reached {
-    pub(crate) whole: usize,
-    pub(crate) others: bool,
-}

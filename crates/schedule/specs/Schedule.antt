@@ -2,16 +2,16 @@
 use Rattle.std.specs.Prelude.{◌≡◌, ℕ, ◌+◌, ◌*◌, ◌≤◌, false, cond, Ok, Err, Result, ◌==◌, nat_le, nat_lt}
 use Rattle.schedule.specs.declared.types.TooSmall.{TooSmall}
 use Rattle.schedule.specs.declared.types.TooSmall.TheVariants.{Look, Window, Gap}
-use Rattle.schedule.specs.declared.types.Values.{Values}
+use Rattle.schedule.specs.declared.types.Terms.{Terms}
 use Rattle.schedule.specs.declared.numbers.Numbers.{Numbers}
 
 -- What was made, as plain values.
-abbrev pub values_of : Result Numbers TooSmall → Result Values TooSmall
+abbrev pub values_of : Result Numbers TooSmall → Result Terms TooSmall
 values_of (Ok n) = Ok (record { gap = n.gap; window = n.window; delay = n.delay; look = n.look })
 values_of (Err e) = Err e
 
 -- Look is at least 1; window has room for a look and a delay; gap has room for a window, three delays and three looks.
-abbrev pub agreed_of : ℕ → ℕ → ℕ → ℕ → Result Values TooSmall
+abbrev pub agreed_of : ℕ → ℕ → ℕ → ℕ → Result Terms TooSmall
 agreed_of gap window delay look =
     cond (look == 0) (Err Look)
     (cond (nat_lt window (look + delay + 1)) (Err Window)

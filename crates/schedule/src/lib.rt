@@ -10,7 +10,7 @@ mod numbers;
 mod types;
 
 pub use numbers::Numbers;
-pub use types::{TooSmall, Values};
+pub use types::{Terms, TooSmall};
 
 impl Numbers {
     // The numbers, or which of them is too small.
@@ -34,13 +34,13 @@ impl Numbers {
         })
     }
 
-    pub fn values(self) -> Values
+    pub fn values(self) -> Terms
         ensures gap { result.gap ≡ self.gap }
         ensures window { result.window ≡ self.window }
         ensures delay { result.delay ≡ self.delay }
         ensures look { result.look ≡ self.look }
     {
-        Values {
+        Terms {
             gap: self.gap,
             window: self.window,
             delay: self.delay,

@@ -1,4 +1,4 @@
-// Which number is too small, and the numbers as plain values.
+// The terms as plain values, and which number of them is too small.
 
 #[derive(Clone, Copy, PartialEq, Eq, Debug)]
 pub enum TooSmall {
@@ -7,8 +7,10 @@ pub enum TooSmall {
     Gap,
 }
 
+// The numbers that all accounts of a node go by, in ticks, whether or not they keep the rules. (The field: timelock delta,
+// contest period, confirmation time, watch interval.)
 #[derive(Clone, Copy, PartialEq, Eq, Debug)]
-pub struct Values {
+pub struct Terms {
     pub gap: u32,
     pub window: u32,
     pub delay: u32,

@@ -3,7 +3,7 @@ use Rattle.std.proofs.Common.{◌≡◌, ℕ, ◌+◌, ◌≤◌, eqb, leb, List
 use Rattle.std.proofs.lemmas.Bool.{cond_both}
 use Rattle.std.specs.List.{slice_get}
 use Rattle.sheet.specs.Contents.{Content}
-use Rattle.node_state.specs.declared.types.Terms.{Terms}
+use Rattle.schedule.specs.declared.types.Terms.{Terms}
 use Rattle.looking.specs.Looking.{is_refused}
 use Rattle.register.specs.Register.{Phase, quiet, disputed, ended, Page, with_sheet, sheet_shown, key_shown, ended_by}
 use Rattle.moments.specs.Runs.{Deposit}

@@ -4,7 +4,7 @@ use Rattle.std.proofs.lemmas.Bool.{cond-true, and_from, lt-ltb}
 use Rattle.sheet.specs.Contents.{Content}
 use Rattle.change.specs.Changes.{most}
 use Rattle.account.specs.Accounts.{Standing}
-use Rattle.node_state.specs.declared.types.Terms.{Terms}
+use Rattle.schedule.specs.declared.types.Terms.{Terms}
 use Rattle.node_state.specs.Nodes.{account_at}
 use Rattle.looking.specs.Looking.{past_on, past_on_next, is_past, looked_of, is_refused}
 use Rattle.register.specs.Register.{Phase, quiet, ended_by}

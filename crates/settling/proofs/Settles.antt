@@ -5,7 +5,7 @@ use Rattle.sheet.specs.declared.types.Payment.{Payment}
 use Rattle.sheet.specs.Contents.{Content}
 use Rattle.change.specs.Changes.{most}
 use Rattle.account.specs.Accounts.{Standing}
-use Rattle.node_state.specs.declared.types.Terms.{Terms}
+use Rattle.schedule.specs.declared.types.Terms.{Terms}
 use Rattle.node_state.specs.Nodes.{account_at}
 use Rattle.looking.specs.Looking.{any_past, past_on, past_on_next, is_past}
 use Rattle.register.specs.Register.{Phase, quiet, disputed, ended, all_over}

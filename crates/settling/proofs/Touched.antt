@@ -7,7 +7,7 @@ use Rattle.change.specs.declared.types.Change.{Change}
 use Rattle.change.specs.declared.types.Change.TheVariants.{Offered, PassingOn, Paying, Getting, Returned, GivingUp}
 use Rattle.change.specs.Follows.{AddedTo, TakenOff, Follows}
 use Rattle.change.proofs.Standing.{none_some, same_some}
-use Rattle.node_state.specs.declared.types.Terms.{Terms}
+use Rattle.schedule.specs.declared.types.Terms.{Terms}
 use Rattle.node_state.specs.Nodes.{NodeState, account_at, with_accounts}
 use Rattle.moments.specs.Runs.{Deposit, Event, History, after, start_of}
 use Rattle.moments.specs.Moves.{Move, offered, passes, pays, gets, returned, gives_up, holds, marked, learns, passing, Reached, begin, then}

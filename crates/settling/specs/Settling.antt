@@ -3,7 +3,7 @@
 use Rattle.std.specs.Prelude.{◌≡◌, ℕ, ◌+◌, ◌<◌, ◌≤◌, Bool, true, false, List, [], ◌∷◌, ◌++◌, length}
 use Rattle.sheet.specs.declared.types.Payment.{Payment}
 use Rattle.change.specs.Changes.{most}
-use Rattle.node_state.specs.declared.types.Terms.{Terms}
+use Rattle.schedule.specs.declared.types.Terms.{Terms}
 use Rattle.moments.specs.Runs.{Deposit}
 use Rattle.moments.specs.Moments.{In, Out, sum_to, put_in}
 use Rattle.promise_told.specs.World.{World, node_of, Event, tick, entry, looks, shows, reveals, arrives, restart, entry_cut, look_cut, world_after}

@@ -1,14 +1,13 @@
 -- Two payments, or the contents of two sheets, are the same if all their parts are.
-use Rattle.std.proofs.Common.{◌≡◌, Bool, ◌&&◌, List, Decides, refl, sym, ap, ◌∙◌}
-use Rattle.std.specs.Cmp.Lexicographic.{pointwise}
+use Rattle.std.proofs.Common.{◌≡◌, Bool, ◌&&◌, Decides, refl, ap}
 use Rattle.std.proofs.lemmas.Slice.Eq.{slice_eq-Decides, bytes_eq-Decides}
-use Rattle.std.proofs.lemmas.Bool.Decides.{Decides-and, Decides-like, Decides-eqb}
+use Rattle.std.proofs.lemmas.Bool.Decides.{Decides-and, Decides-at, Decides-like, Decides-eqb}
 use Rattle.sheet.specs.declared.types.Payment.{Payment}
 use Rattle.sheet.specs.Contents.{Content, payment_eq, content_eq}
 
-pub payment_decides : (a b : Payment) (x y z : Bool) → Decides x (a.lock ≡ b.lock) → Decides y (a.amount ≡ b.amount) → Decides z (a.end ≡ b.end) → Decides ((x && y) && z) (a ≡ b)
+pub payment_decides : (a b : Payment) (x y z : Bool) → Decides x (a.lock ≡ b.lock) → Decides y (a.amount ≡ b.amount) → Decides z (a.end ≡ b.end) → Decides (x && (y && z)) (a ≡ b)
 payment_decides a b x y z dx dy dz =
-    Decides-like _ (λ h. joined h.0.0 h.0.1 h.1) (λ e. ((ap (λ p. p.lock) e, ap (λ p. p.amount) e), ap (λ p. p.end) e)) (Decides-and _ _ (Decides-and _ _ dx dy) dz)
+    Decides-like _ (λ h. joined h.0 h.1.0 h.1.1) (λ e. (ap (λ p. p.lock) e, (ap (λ p. p.amount) e, ap (λ p. p.end) e))) (Decides-and _ _ dx (Decides-and _ _ dy dz))
   where
     joined : a.lock ≡ b.lock → a.amount ≡ b.amount → a.end ≡ b.end → a ≡ b
     joined l m n = let whole : ◌≡◌ {A = Payment} (record { lock = a.lock; amount = a.amount; end = a.end }) (record { lock = b.lock; amount = b.amount; end = b.end }) = cc in whole
@@ -28,11 +27,11 @@ module _ (a b : Content) where
 pub payment_eq_decides : (a b : Payment) → Decides (payment_eq a b) (a ≡ b)
 payment_eq_decides a b = payment_decides a b _ _ _ (bytes_eq-Decides a.lock b.lock) (Decides-eqb _ _) (Decides-eqb _ _)
 
--- what == says of two slices, for the lists that they are known to hold
-pub lists_decide : (xs ys us vs : List Payment) (r : Bool) → xs ≡ us → ys ≡ vs → r ≡ pointwise payment_eq xs ys → Decides r (us ≡ vs)
-lists_decide xs ys us vs r e f h = Decides-like r (λ g. sym e ∙ g ∙ f) (λ g. e ∙ g ∙ sym f) (slice_eq-Decides payment_eq_decides xs ys r h)
-
 pub content_eq_decides : (a b : Content) → Decides (content_eq a b) (a ≡ b)
 content_eq_decides a b =
     content_decides a b _ _ _ _ _ _ (Decides-eqb _ _) (Decides-eqb _ _) (Decides-eqb _ _) (Decides-eqb _ _)
-    (lists_decide a.ins b.ins a.ins b.ins _ refl refl refl) (lists_decide a.outs b.outs a.outs b.outs _ refl refl refl)
+    (slice_eq-Decides payment_eq_decides a.ins b.ins _ refl) (slice_eq-Decides payment_eq_decides a.outs b.outs _ refl)
+
+-- what == answers is whether two contents are the same
+pub content_told : (r : Bool) (a b : Content) → r ≡ content_eq a b → Decides r (a ≡ b)
+content_told r a b e = Decides-at r _ e (content_eq_decides a b)

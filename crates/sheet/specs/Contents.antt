@@ -1,6 +1,6 @@
 -- What a sheet means: its numbers and two lists of payments, and how a payment is found, added and taken off.
 -- Assumes nothing.
-use Rattle.std.specs.Prelude.{◌≡◌, ◌==◌, ℕ, Bool, Decides, cond, ◌&&◌, List, [], ◌∷◌, length, take, Some, None, Option, nat_le, nat_lt}
+use Rattle.std.specs.Prelude.{◌≡◌, ◌==◌, ℕ, Bool, Decides, cond, ◌&&◌, List, [], ◌∷◌, length, take, find, Some, None, Option, nat_le, nat_lt}
 use Rattle.std.specs.Cmp.Lexicographic.{pointwise}
 use Rattle.std.specs.Str.{bytes_eq}
 use Rattle.sheet.specs.declared.types.Payment.{Payment}
@@ -15,6 +15,10 @@ pub record Content : Type 0 where
   pub ins : List Payment
   pub outs : List Payment
 
+-- The payments of an array, up to a count.
+abbrev pub firsts : List Payment × ℕ → List Payment
+firsts r = take r.1 r.0
+
 -- What stands past the counts is left out.
 abbrev pub content_of : Sheet → Content
 content_of s =
@@ -26,7 +30,7 @@ is_for lock p = bytes_eq p.lock lock
 
 -- What == answers of two payments: is it one lock, one amount and one end.
 abbrev pub payment_eq : Payment → Payment → Bool
-payment_eq a b = (bytes_eq a.lock b.lock && (a.amount == b.amount)) && (a.end == b.end)
+payment_eq a b = bytes_eq a.lock b.lock && ((a.amount == b.amount) && (a.end == b.end))
 
 -- What == answers of two sheets, by what they mean: are all numbers the same, and the ins and outs one by one.
 abbrev pub content_eq : Content → Content → Bool
@@ -36,8 +40,7 @@ content_eq a b =
 
 -- The payment with a lock: the first one, if there are more.
 abbrev pub found : List ℕ → List Payment → Option Payment
-found lock [] = None
-found lock (p ∷ ps) = cond (is_for lock p) (Some p) (found lock ps)
+found lock ps = find (is_for lock) ps
 
 -- The others, in their order.
 abbrev pub without : List ℕ → List Payment → List Payment
@@ -48,10 +51,10 @@ without lock (p ∷ ps) = cond (is_for lock p) ps (p ∷ without lock ps)
 abbrev pub first_of : ℕ → ℕ → ℕ → Content
 first_of account own theirs = record { account = account; number = 0; own = own; theirs = theirs; ins = []; outs = [] }
 
--- A sheet of the first so many ins and outs of two arrays; there are at most 32 of each.
-abbrev pub from_parts : (account number own theirs : ℕ) → List Payment → ℕ → List Payment → ℕ → Option Content
-from_parts account number own theirs ins many outs more =
-    cond (nat_le many 32 && nat_le more 32) (Some (record { account = account; number = number; own = own; theirs = theirs; ins = take many ins; outs = take more outs })) None
+-- A sheet of these ins and outs; there are at most 32 of each.
+abbrev pub from_parts : (account number own theirs : ℕ) → (ins outs : List Payment) → Option Content
+from_parts account number own theirs ins outs =
+    cond (nat_le (length ins) 32 && nat_le (length outs) 32) (Some (record { account = account; number = number; own = own; theirs = theirs; ins = ins; outs = outs })) None
 
 -- The sheet with other ins, or with other outs.
 abbrev pub with_ins : Content → List Payment → Content

@@ -11,7 +11,7 @@ nat_eq_laws = partial_equiv_from_equiv nat_eq_equiv
 
 -- The same of two payments.
 pub payment_eq_laws : IsPartialEquivalence payment_eq
-payment_eq_laws = and_per (and_per (on_per (λ (p : Payment). p.lock) (lists_per nat_eq_laws)) (on_per (λ (p : Payment). p.amount) nat_eq_laws)) (on_per (λ (p : Payment). p.end) nat_eq_laws)
+payment_eq_laws = and_per (on_per (λ (p : Payment). p.lock) (lists_per nat_eq_laws)) (and_per (on_per (λ (p : Payment). p.amount) nat_eq_laws) (on_per (λ (p : Payment). p.end) nat_eq_laws))
 
 pub content_eq_laws : IsPartialEquivalence content_eq
 content_eq_laws =

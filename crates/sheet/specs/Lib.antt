@@ -1,3 +1,2 @@
 pub mod Contents
-pub mod Places
 pub mod Laws

@@ -3,14 +3,8 @@ ghost use Rattle.std.specs.Prelude.{◌≡◌, ◌≤◌, length};
 ghost use Rattle.std.specs.Option.{option_map};
 ghost use Rattle.sheet.specs.Contents.{content_of, first_of, from_parts, with_ins, with_outs, added_to, without, turned_of};
 
-use crate::payments::{place, put_first, take_off};
+use crate::payments::{added, array_of, removed};
 use crate::types::{Payment, Sheet};
-
-const NOTHING: Payment = Payment {
-    lock: [0; 32],
-    amount: 0,
-    end: 0,
-};
 
 impl Sheet {
     // Sheet 0 of an account: the deposits.
@@ -22,9 +16,9 @@ impl Sheet {
             number: 0,
             own,
             theirs,
-            ins: [NOTHING; 32],
+            ins: [Payment::default(); 32],
             in_count: 0,
-            outs: [NOTHING; 32],
+            outs: [Payment::default(); 32],
             out_count: 0,
         }
     }
@@ -35,25 +29,20 @@ impl Sheet {
         number: u32,
         own: u32,
         theirs: u32,
-        ins: [Payment; 32],
-        in_count: usize,
-        outs: [Payment; 32],
-        out_count: usize,
+        ins: &[Payment],
+        outs: &[Payment],
     ) -> Option<Sheet>
-        ensures { option_map content_of result ≡ from_parts account number own theirs ins in_count outs out_count }
+        ensures { option_map content_of result ≡ from_parts account number own theirs ins.now outs.now }
     {
-        if in_count > 32 || out_count > 32 {
-            return None;
-        }
         Some(Sheet {
             account,
             number,
             own,
             theirs,
-            ins,
-            in_count,
-            outs,
-            out_count,
+            ins: array_of(ins)?,
+            in_count: ins.len(),
+            outs: array_of(outs)?,
+            out_count: outs.len(),
         })
     }
 
@@ -75,12 +64,8 @@ impl Sheet {
     pub fn with_in(self, p: Payment) -> Option<Sheet>
         ensures { option_map content_of result ≡ added_to with_ins (content_of self) (content_of self).ins p }
     {
-        if self.in_count >= 32 {
-            return None;
-        }
         let mut next = self;
-        next.ins = put_first(self.ins, self.in_count, p);
-        next.in_count = self.in_count + 1;
+        (next.ins, next.in_count) = added(self.ins, self.in_count, p)?;
         Some(next)
     }
 
@@ -88,12 +73,8 @@ impl Sheet {
     pub fn with_out(self, p: Payment) -> Option<Sheet>
         ensures { option_map content_of result ≡ added_to with_outs (content_of self) (content_of self).outs p }
     {
-        if self.out_count >= 32 {
-            return None;
-        }
         let mut next = self;
-        next.outs = put_first(self.outs, self.out_count, p);
-        next.out_count = self.out_count + 1;
+        (next.outs, next.out_count) = added(self.outs, self.out_count, p)?;
         Some(next)
     }
 
@@ -101,12 +82,8 @@ impl Sheet {
     pub fn without_in(self, lock: &[u8; 32]) -> Sheet
         ensures { content_of result ≡ with_ins (content_of self) (without lock.now (content_of self).ins) }
     {
-        let Some(at) = place(self.ins(), lock) else {
-            return self;
-        };
         let mut next = self;
-        next.ins = take_off(self.ins, self.in_count, at);
-        next.in_count = self.in_count - 1;
+        (next.ins, next.in_count) = removed(self.ins, self.in_count, lock);
         next
     }
 
@@ -114,12 +91,8 @@ impl Sheet {
     pub fn without_out(self, lock: &[u8; 32]) -> Sheet
         ensures { content_of result ≡ with_outs (content_of self) (without lock.now (content_of self).outs) }
     {
-        let Some(at) = place(self.outs(), lock) else {
-            return self;
-        };
         let mut next = self;
-        next.outs = take_off(self.outs, self.out_count, at);
-        next.out_count = self.out_count - 1;
+        (next.outs, next.out_count) = removed(self.outs, self.out_count, lock);
         next
     }
 
@@ -127,8 +100,7 @@ impl Sheet {
     pub fn turned(self) -> Sheet
         ensures { content_of result ≡ turned_of (content_of self) }
     {
-        let ins = self.outs;
-        let outs = self.ins;
+        let (ins, outs) = (self.outs, self.ins);
         Sheet {
             account: self.account,
             number: self.number,

@@ -3,7 +3,7 @@ ghost use Rattle.std.specs.Prelude.{◌≡◌, ◌≤◌, length};
 
 // A conditional payment: whoever is to get it gets the amount if the key of the lock is shown in time, and the
 // end is the last tick for that. (The field: an HTLC, with its payment hash and its expiry.)
-#[derive(Clone, Copy)]
+#[derive(Clone, Copy, PartialEq, Eq, Default, Debug)]
 pub struct Payment {
     pub lock: [u8; 32],
     pub amount: u32,

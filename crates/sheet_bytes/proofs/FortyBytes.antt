@@ -1,8 +1,9 @@
 -- A payment as forty bytes, and payments one after another: at a place among others, read back, and written again.
-use Rattle.std.proofs.Common.{◌≡◌, ℕ, zero, suc, ◌+◌, ◌*◌, ◌<◌, ◌≤◌, List, [], ◌∷◌, ◌++◌, length, take, drop, set, sym, refl, ap, ◌∙◌, add-one, arith, take-add}
+use Rattle.std.proofs.Common.{◌≡◌, ℕ, zero, suc, ◌+◌, ◌*◌, ◌<◌, ◌≤◌, List, [], ◌∷◌, ◌++◌, length, get_or, take, drop, map, sym, refl, ap, ◌∙◌, add-one, arith, take-add}
 use Rattle.std.proofs.ByRecursion.{All-take, All-drop}
-use Rattle.std.proofs.lemmas.List.{append_assoc, drop_at, drop-drop, length-append, length-drop, length-take-le, take_at, take_more_set}
-use Rattle.std.specs.List.{flat_map, AllByRecursion}
+use Rattle.std.proofs.lemmas.List.{append_assoc, drop_at, drop-drop, length-append, length-drop, length-take-le, get_or-take, take_at}
+use Rattle.std.proofs.lemmas.List.FromFn.{fill_by_all, map-range_with_len_more}
+use Rattle.std.specs.List.{flat_map, range_with_len, AllByRecursion}
 use Rattle.sheet.specs.declared.types.Payment.{Payment}
 use Rattle.sheet_bytes.specs.Bytes.{number_bytes, number_of, payment_bytes, payment_of, payments_of}
 use Rattle.sheet_bytes.specs.Theorems.{AreBytes, GoodPayment}
@@ -20,10 +21,16 @@ payments_suc (suc n) bs =
     let here : drop (40 * n) (drop 40 bs) ≡ drop (40 * suc n) bs = drop-drop (40 * n) 40 bs ∙ ap (λ k. drop k bs) (let e : 40 + 40 * n ≡ 40 * suc n = omega arith in e) in
     ap (λ ps. payment_of bs ∷ ps) (payments_suc n (drop 40 bs)) ∙ ap (λ cs. payment_of bs ∷ (payments_of n (drop 40 bs) ++ payment_of cs ∷ [])) here
 
-pub payments_more : (bs : List ℕ) (at i : ℕ) (list : List Payment) (p : Payment) → i < length list → take i list ≡ payments_of i (drop at bs) → p ≡ payment_of (drop (at + 40 * i) bs) → take (i + 1) (set list i p) ≡ payments_of (i + 1) (drop at bs)
-payments_more bs at i list p h inv e =
-    let here : p ≡ payment_of (drop (40 * i) (drop at bs)) = e ∙ ap payment_of (sym (drop-drop (40 * i) at bs)) in
-    take_more_set list i p h ∙ ap (λ ps. ps ++ p ∷ []) inv ∙ ap (λ q. payments_of i (drop at bs) ++ q ∷ []) here ∙ sym (payments_suc i (drop at bs)) ∙ ap (λ n. payments_of n (drop at bs)) (sym (add-one i))
+payments_by_place : (n : ℕ) (bs : List ℕ) → payments_of n bs ≡ map (λ k. payment_of (drop (40 * k) bs)) (range_with_len 0 n)
+payments_by_place zero bs = refl
+payments_by_place (suc n) bs =
+    payments_suc n bs ∙ ap (λ ps. ps ++ payment_of (drop (40 * n) bs) ∷ []) (payments_by_place n bs) ∙ sym (ap (λ k. map (λ k. payment_of (drop (40 * k) bs)) (range_with_len 0 k)) (sym (add-one n)) ∙ map-range_with_len_more (λ k. payment_of (drop (40 * k) bs)) 0 n n (omega arith))
+
+-- each of the first n payments is read at its place
+pub payments_each : (bs : List ℕ) (at n : ℕ) (list : List Payment) (d : Payment) → n ≤ length list → ((k : ℕ) → k < n → get_or list k d ≡ payment_of (drop (at + 40 * k) bs)) → take n list ≡ payments_of n (drop at bs)
+payments_each bs at n list d h each =
+    fill_by_all (λ k. payment_of (drop (40 * k) (drop at bs))) (take n list) n d (length-take-le n list h) (λ k l. get_or-take n list k d l ∙ each k l ∙ ap payment_of (sym (drop-drop (40 * k) at bs)))
+    ∙ sym (payments_by_place n (drop at bs))
 
 pub payment_length : (p : Payment) → GoodPayment p → length (payment_bytes p) ≡ 40
 payment_length p g = simp length-append (omega (arith, g.long))

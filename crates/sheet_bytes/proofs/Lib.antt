@@ -1,4 +1,5 @@
 pub mod Appending
+pub mod Calls
 pub mod FourBytes
 pub mod FortyBytes
 pub mod SheetBytes

@@ -1,5 +1,5 @@
 // Bytes and numbers of four bytes, high byte first.
-ghost use Rattle.std.specs.Prelude.{◌≡◌, ◌+◌, ◌≤◌, length, drop};
+ghost use Rattle.std.specs.Prelude.{◌≡◌, ◌+◌, ◌-◌, ◌≤◌, length, drop, nat_le};
 ghost use Rattle.sheet_bytes.specs.Appends.{Appended, Room, Put};
 ghost use Rattle.sheet_bytes.specs.Bytes.{number_bytes, number_of, number_read};
 
@@ -31,6 +31,21 @@ pub fn push_number(out: &mut Vec<u8>, n: u32) -> Result<(), AllocError>
     Ok(())
 }
 
+// The bytes from a place on: none where the place is past the end.
+pub fn rest_from(bytes: &[u8], at: usize) -> &[u8]
+    ensures value { result.now ≡ drop at bytes.now }
+    ensures len { length result.now ≡ length bytes.now - at }
+{
+    bytes.get(at..).unwrap_or_default()
+}
+
+// Are there so many bytes from a place on.
+pub(crate) fn holds(bytes: &[u8], at: usize, size: usize) -> bool
+    ensures { result ≡ nat_le (at + size) (length bytes.now) }
+{
+    bytes.len() >= size && bytes.len() - size >= at
+}
+
 // The number at a place where its four bytes are known to be.
 pub(crate) fn number_at(bytes: &[u8], at: usize) -> u32
     requires { at + 4 ≤ length bytes.now }
@@ -43,7 +58,7 @@ pub(crate) fn number_at(bytes: &[u8], at: usize) -> u32
 pub fn read_number(bytes: &[u8], at: usize) -> Option<u32>
     ensures { result ≡ number_read bytes.now at }
 {
-    if bytes.len() < 4 || bytes.len() - 4 < at {
+    if !holds(bytes, at, 4) {
         return None;
     }
     Some(number_at(bytes, at))

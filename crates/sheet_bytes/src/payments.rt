@@ -1,19 +1,13 @@
 // Payments as 40 bytes, and lists of them.
-ghost use Rattle.std.specs.Prelude.{◌≡◌, ◌+◌, ◌*◌, ◌≤◌, length, take, drop};
+ghost use Rattle.std.specs.Prelude.{◌≡◌, ◌+◌, ◌*◌, ◌<◌, ◌≤◌, length, take, drop};
 ghost use Rattle.std.specs.List.{flat_map};
 ghost use Rattle.sheet_bytes.specs.Appends.{Appended, Room, Put};
 ghost use Rattle.sheet_bytes.specs.Bytes.{payment_bytes, list_bytes, payment_of, payments_of, payment_read};
 
-use crate::numbers::{number_at, put_bytes, put_number};
+use crate::numbers::{holds, number_at, put_bytes, put_number};
 use sheet::Payment;
 use std::alloc::AllocError;
-
-// What stands past the payments that were read.
-const NOTHING: Payment = Payment {
-    lock: [0; 32],
-    amount: 0,
-    end: 0,
-};
+use std::array;
 
 // Appends the bytes of a payment, for which there is room.
 fn put_payment(out: &mut Vec<u8>, payment: &Payment)
@@ -76,24 +70,32 @@ fn payment_at(bytes: &[u8], at: usize) -> Payment
     }
 }
 
+// The i-th of the payments from a place on, where the bytes of `count` are known to be; any payment past these.
+fn nth_payment(bytes: &[u8], at: usize, count: usize, i: usize) -> Payment
+    requires { at + 40 * count ≤ length bytes.now }
+    ensures { i < count → result ≡ payment_of (drop (at + 40 * i) bytes.now) }
+{
+    if i < count {
+        payment_at(bytes, at + 40 * i)
+    } else {
+        Payment::default()
+    }
+}
+
 // The payments from a place on, where their bytes are known to be.
 pub(crate) fn payments_at(bytes: &[u8], at: usize, count: usize) -> [Payment; 32]
     requires few { count ≤ 32 }
     requires within { at + 40 * count ≤ length bytes.now }
     ensures { take count result ≡ payments_of count (drop at bytes.now) }
 {
-    let mut list = [NOTHING; 32];
-    for i in 0..count {
-        list[i] = payment_at(bytes, at + 40 * i);
-    }
-    list
+    array::from_fn(|i| nth_payment(bytes, at, count, i))
 }
 
 // The payment at a place; None where its 40 bytes aren't there.
 pub fn read_payment(bytes: &[u8], at: usize) -> Option<Payment>
     ensures { result ≡ payment_read bytes.now at }
 {
-    if bytes.len() < 40 || bytes.len() - 40 < at {
+    if !holds(bytes, at, 40) {
         return None;
     }
     Some(payment_at(bytes, at))

@@ -6,7 +6,7 @@ ghost use Rattle.sheet_bytes.specs.Appends.{Appended, Room, Put};
 ghost use Rattle.sheet_bytes.specs.Bytes.{head_bytes, sheet_bytes, counts_read, sheet_read};
 ghost use Rattle.sheet_bytes.specs.Sheets.{contents};
 
-use crate::numbers::{number_at, put_bytes, put_number};
+use crate::numbers::{number_at, put_bytes, put_number, rest_from};
 use crate::payments::{payments_at, put_list};
 use refusal::Refusal;
 use sheet::Sheet;
@@ -73,28 +73,17 @@ pub fn read_sheet(bytes: &[u8]) -> Result<SheetRead, Refusal>
     ensures within { IfOk result (λ got. got.used ≤ length bytes.now) }
     ensures some { IfOk result (λ got. 0 < got.used) }
 {
-    let Some((in_count, out_count)) = counts(bytes) else {
-        return Err(Refusal::Unreadable);
-    };
+    let (in_count, out_count) = counts(bytes).ok_or(Refusal::Unreadable)?;
     let number = number_at(bytes, 1);
     let (own, theirs) = (number_at(bytes, 5), number_at(bytes, 9));
     let ins = payments_at(bytes, 14, in_count);
     let outs = payments_at(bytes, 15 + 40 * in_count, out_count);
-    let Some(sheet) = Sheet::from_parts(
-        bytes[0], number, own, theirs, ins, in_count, outs, out_count,
-    ) else {
-        return Err(Refusal::Unreadable);
-    };
+    let (ins, outs) = (&ins[..in_count], &outs[..out_count]);
+    let sheet = Sheet::from_parts(bytes[0], number, own, theirs, ins, outs).ok_or(
+        Refusal::Unreadable,
+    )?;
     let used = 15 + 40 * in_count + 40 * out_count;
     Ok(SheetRead { sheet, used })
-}
-
-// The bytes from a place on: none where the place is past the end.
-fn rest_from(bytes: &[u8], at: usize) -> &[u8]
-    ensures value { result.now ≡ drop at bytes.now }
-    ensures len { length result.now ≡ length bytes.now - at }
-{
-    &bytes[at.min(bytes.len())..]
 }
 
 // Reads a sheet from a place on.

@@ -8,7 +8,7 @@ ghost use Rattle.small_keys.specs.Keys.{key_bytes, lock_bytes};
 use digest::lock;
 
 // The key with a number.
-fn key_with(number: u32) -> [u8; 32]
+pub fn key_of(number: u32) -> [u8; 32]
     ensures { result ≡ key_bytes number }
 {
     let mut key = [0; 32];
@@ -16,14 +16,8 @@ fn key_with(number: u32) -> [u8; 32]
     key
 }
 
-pub fn key_of(number: u32) -> [u8; 32]
-    ensures { result ≡ key_bytes number }
-{
-    key_with(number)
-}
-
 pub fn lock_of(number: u32) -> [u8; 32]
     ensures { result ≡ lock_bytes number }
 {
-    lock(&key_with(number))
+    lock(&key_of(number))
 }

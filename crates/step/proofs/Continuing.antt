@@ -5,7 +5,7 @@ use Rattle.std.proofs.lemmas.List.{append-nil}
 use Rattle.refusal.specs.declared.Refusal.{Refusal}
 use Rattle.sheet.specs.Contents.{first_of}
 use Rattle.account.specs.Accounts.{Standing, opened_of}
-use Rattle.node_state.specs.declared.types.Terms.{Terms}
+use Rattle.schedule.specs.declared.types.Terms.{Terms}
 use Rattle.node_state.specs.Nodes.{NodeState, empty_of, with_accounts, with_opened}
 use Rattle.outcome.specs.declared.types.Fault.{Fault}
 use Rattle.outcome.specs.Acts.{Act}

@@ -1,6 +1,6 @@
 -- How a run begins: a node that is opened with the deposits is the node at the beginning of the world. Assumes nothing.
 use Rattle.std.specs.Prelude.{◌≡◌, ◌≤◌, List, [], ◌∷◌, length}
-use Rattle.node_state.specs.declared.types.Terms.{Terms}
+use Rattle.schedule.specs.declared.types.Terms.{Terms}
 use Rattle.node_state.specs.Nodes.{NodeState, empty_of, with_opened}
 use Rattle.moments.specs.Runs.{Deposit}
 use Rattle.promise_told.specs.World.{node_of, beginning}

@@ -1,7 +1,7 @@
 -- What a request comes to, and what that is in the world of the promise. Assumes nothing.
 use Rattle.std.specs.Prelude.{◌≡◌, ℕ, true, List, [], ◌∷◌, ◌++◌, take, Ok, Err, vec_items, Result}
 use Rattle.refusal.specs.declared.Refusal.{Refusal}
-use Rattle.node_state.specs.declared.types.Terms.{Terms}
+use Rattle.schedule.specs.declared.types.Terms.{Terms}
 use Rattle.node_state.specs.Nodes.{NodeState}
 use Rattle.outcome.specs.declared.types.Fault.{Fault}
 use Rattle.outcome.specs.Acts.{Act}

@@ -1,6 +1,7 @@
 -- What a text of terms says, line by line, and when the terms hold. Assumes nothing.
-use Rattle.std.specs.Prelude.{◌≡◌, ℕ, ◌+◌, ◌*◌, ◌≤◌, cond, List, [], ◌∷◌, length, replicate, Some, None, Ok, Err, codes, Option, Result, ◌==◌, nat_le, nat_lt, slice_set}
+use Rattle.std.specs.Prelude.{◌≡◌, ℕ, ◌+◌, ◌*◌, ◌≤◌, cond, List, [], ◌∷◌, ◌++◌, length, Some, None, Ok, Err, codes, Option, Result, ◌==◌, nat_le, nat_lt}
 use Rattle.std.specs.Str.{bytes_eq}
+use Rattle.arrayvec.specs.ArrayVec.{array_vec_len}
 use Rattle.lines.specs.declared.NumberFault.{NumberFault}
 use Rattle.lines.specs.declared.NumberFault.TheVariants.{NotANumber, TooLarge}
 use Rattle.lines.specs.Lines.{words, parts, cut_at, number_read}
@@ -64,20 +65,25 @@ abbrev pub once : Option Placed → ℕ → Draft → Result Draft Fault
 once None line d = Ok d
 once (Some p) line d = Err (record { line = line; wrong = Twice })
 
+-- A word's number, where the word did not stand before.
+abbrev pub placed_once : Option Placed → ℕ → ℕ → Result (Option Placed) Fault
+placed_once None line n = Ok (placed n line)
+placed_once (Some p) line n = Err (record { line = line; wrong = Twice })
+
 abbrev pub said : Draft → ℕ → Entry → Result Draft Fault
 said d line Nothing = Ok d
 said d line (Gap n) =
-    once d.gap line (record { gap = placed n line; window = d.window; delay = d.delay; look = d.look; deposits = d.deposits; count = d.count })
+    once d.gap line (record { gap = placed n line; window = d.window; delay = d.delay; look = d.look; deposits = d.deposits })
 said d line (Window n) =
-    once d.window line (record { gap = d.gap; window = placed n line; delay = d.delay; look = d.look; deposits = d.deposits; count = d.count })
+    once d.window line (record { gap = d.gap; window = placed n line; delay = d.delay; look = d.look; deposits = d.deposits })
 said d line (Delay n) =
-    once d.delay line (record { gap = d.gap; window = d.window; delay = placed n line; look = d.look; deposits = d.deposits; count = d.count })
+    once d.delay line (record { gap = d.gap; window = d.window; delay = placed n line; look = d.look; deposits = d.deposits })
 said d line (Look n) =
-    once d.look line (record { gap = d.gap; window = d.window; delay = d.delay; look = placed n line; deposits = d.deposits; count = d.count })
+    once d.look line (record { gap = d.gap; window = d.window; delay = d.delay; look = placed n line; deposits = d.deposits })
 said d line (Account a) =
-    cond (nat_le 16 d.count) (Err (record { line = line; wrong = TooManyAccounts }))
+    cond (nat_le 16 (array_vec_len d.deposits)) (Err (record { line = line; wrong = TooManyAccounts }))
     (cond (nat_lt 4294967295 (a.own + a.theirs)) (Err (record { line = line; wrong = DepositsTooLarge }))
-    (Ok (record { gap = d.gap; window = d.window; delay = d.delay; look = d.look; deposits = slice_set d.deposits d.count a; count = d.count + 1 })))
+    (Ok (record { gap = d.gap; window = d.window; delay = d.delay; look = d.look; deposits = record { items = d.deposits.items ++ a ∷ [] } })))
 
 abbrev pub said_by : Draft → ℕ → Result Entry Wrong → Result Draft Fault
 said_by d line (Ok e) = said d line e
@@ -89,14 +95,14 @@ hold d gap window delay look =
     cond (look.value == 0) (Err (record { line = look.line; wrong = LookBelowOne }))
     (cond (nat_lt window.value (look.value + delay.value + 1)) (Err (record { line = window.line; wrong = WindowTooShort }))
     (cond (nat_lt gap.value (window.value + 3 * delay.value + 3 * look.value)) (Err (record { line = gap.line; wrong = GapTooShort }))
-    (Ok (record { terms = record { gap = gap.value; window = window.value; delay = delay.value; look = look.value }; deposits = d.deposits; count = d.count }))))
+    (Ok (record { terms = record { gap = gap.value; window = window.value; delay = delay.value; look = look.value }; deposits = d.deposits }))))
 
 abbrev pub missing : Wrong → Fault
 missing w = record { line = 0; wrong = w }
 
 abbrev pub with_look : Draft → (gap window delay : Placed) → Option Placed → Result Agreed Fault
 with_look d gap window delay None = Err (missing NoLook)
-with_look d gap window delay (Some look) = cond (d.count == 0) (Err (missing NoAccount)) (hold d gap window delay look)
+with_look d gap window delay (Some look) = cond (array_vec_len d.deposits == 0) (Err (missing NoAccount)) (hold d gap window delay look)
 
 abbrev pub with_delay : Draft → (gap window : Placed) → Option Placed → Result Agreed Fault
 with_delay d gap window None = Err (missing NoDelay)
@@ -125,7 +131,7 @@ all_say d line (x ∷ xs) = on_draft (said_by d line (line_says x)) (λ e. all_s
 -- Nothing was said yet.
 abbrev pub empty : Draft
 empty =
-    record { gap = None; window = None; delay = None; look = None; deposits = replicate 16 (record { own = 0; theirs = 0 }); count = 0 }
+    record { gap = None; window = None; delay = None; look = None; deposits = record { items = [] } }
 
 abbrev pub agreed_by : Result Draft Fault → Result Agreed Fault
 agreed_by (Ok d) = agreed d
@@ -140,7 +146,7 @@ pub record Holds (a : Agreed) : Type 0 where
   pub look : 1 ≤ a.terms.look
   pub window : a.terms.look + a.terms.delay + 1 ≤ a.terms.window
   pub gap : a.terms.window + 3 * a.terms.delay + 3 * a.terms.look ≤ a.terms.gap
-  pub some : 1 ≤ a.count
+  pub some : 1 ≤ array_vec_len a.deposits
 
 -- Whatever text they come from, the terms hold.
 abbrev pub TermsHold : Type 0

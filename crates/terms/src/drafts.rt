@@ -1,26 +1,32 @@
 // What the lines have said so far, and the terms that come of it.
-ghost use Rattle.std.specs.Prelude.{◌≡◌, ◌≤◌, length};
+ghost use Rattle.std.specs.Prelude.{◌≡◌, ◌≤◌, length, Some, Ok, Err};
 ghost use Rattle.lines.specs.Lines.{parts};
-ghost use Rattle.terms.specs.Reading.{said, said_by, line_says, all_say, empty, agreed, hold};
+ghost use Rattle.terms.specs.Reading.{placed_once, said, said_by, line_says, all_say, empty, agreed};
 
 use crate::entries::entry_of;
-use crate::types::{Agreed, Deposits, Draft, Entry, Fault, Placed, Terms, Wrong};
+use crate::types::{Agreed, Deposits, Draft, Entry, Fault, Placed, Wrong};
+use arrayvec::ArrayVec;
 use lines::part_at;
+use schedule::{Numbers, TooSmall};
 
-const EMPTY: Draft = Draft {
-    gap: None,
-    window: None,
-    delay: None,
-    look: None,
-    deposits: [Deposits { own: 0, theirs: 0 }; 16],
-    count: 0,
-};
+// The number of a word, which stands once.
+fn once(before: Option<Placed>, line: usize, value: u32) -> Result<Option<Placed>, Fault>
+    ensures { result ≡ placed_once before line value }
+{
+    match before {
+        None => Ok(Some(Placed { value, line })),
+        Some(_) => Err(Fault {
+            line,
+            wrong: Wrong::Twice,
+        }),
+    }
+}
 
 // One account more.
-fn with_account(draft: Draft, line: usize, deposits: Deposits) -> Result<Draft, Fault>
+fn with_account(mut draft: Draft, line: usize, deposits: Deposits) -> Result<Draft, Fault>
     ensures { result ≡ said draft line (Entry.Account deposits) }
 {
-    if draft.count >= 16 {
+    if draft.deposits.is_full() {
         return Err(Fault {
             line,
             wrong: Wrong::TooManyAccounts,
@@ -32,67 +38,42 @@ fn with_account(draft: Draft, line: usize, deposits: Deposits) -> Result<Draft, 
             wrong: Wrong::DepositsTooLarge,
         });
     }
-    let mut next = draft;
-    next.deposits[draft.count] = deposits;
-    next.count = draft.count + 1;
-    Ok(next)
+    draft.deposits.push(deposits);
+    Ok(draft)
 }
 
 // The draft with what a line says.
 pub(crate) fn with_entry(draft: Draft, line: usize, entry: Entry) -> Result<Draft, Fault>
     ensures { result ≡ said draft line entry }
 {
-    let twice = Fault {
-        line,
-        wrong: Wrong::Twice,
-    };
-    let mut next = draft;
-    match entry {
-        Entry::Nothing => Ok(draft),
-        Entry::Gap(value) => {
-            next.gap = Some(Placed { value, line });
-            if draft.gap.is_some() {
-                Err(twice)
-            } else {
-                Ok(next)
-            }
-        }
-        Entry::Window(value) => {
-            next.window = Some(Placed { value, line });
-            if draft.window.is_some() {
-                Err(twice)
-            } else {
-                Ok(next)
-            }
-        }
-        Entry::Delay(value) => {
-            next.delay = Some(Placed { value, line });
-            if draft.delay.is_some() {
-                Err(twice)
-            } else {
-                Ok(next)
-            }
-        }
-        Entry::Look(value) => {
-            next.look = Some(Placed { value, line });
-            if draft.look.is_some() {
-                Err(twice)
-            } else {
-                Ok(next)
-            }
-        }
-        Entry::Account(deposits) => with_account(draft, line, deposits),
-    }
+    Ok(match entry {
+        Entry::Nothing => draft,
+        Entry::Gap(value) => Draft {
+            gap: once(draft.gap, line, value)?,
+            ..draft
+        },
+        Entry::Window(value) => Draft {
+            window: once(draft.window, line, value)?,
+            ..draft
+        },
+        Entry::Delay(value) => Draft {
+            delay: once(draft.delay, line, value)?,
+            ..draft
+        },
+        Entry::Look(value) => Draft {
+            look: once(draft.look, line, value)?,
+            ..draft
+        },
+        Entry::Account(deposits) => with_account(draft, line, deposits)?,
+    })
 }
 
 // The draft with one line more.
 fn with_line(draft: Draft, line: usize, text: &[u8]) -> Result<Draft, Fault>
     ensures { result ≡ said_by draft line (line_says text.now) }
 {
-    match entry_of(text) {
-        Ok(entry) => with_entry(draft, line, entry),
-        Err(wrong) => Err(Fault { line, wrong }),
-    }
+    let entry = entry_of(text).map_err(|wrong| Fault { line, wrong })?;
+    with_entry(draft, line, entry)
 }
 
 // What all lines of a text say.
@@ -100,7 +81,13 @@ pub(crate) fn draft_of(text: &[u8]) -> Result<Draft, Fault>
     requires { length text.now ≤ 1048576 }
     ensures { result ≡ all_say empty 1 (parts 10 text.now) }
 {
-    let mut draft = EMPTY;
+    let mut draft = Draft {
+        gap: None,
+        window: None,
+        delay: None,
+        look: None,
+        deposits: ArrayVec::new(),
+    };
     let mut line = 1;
     let mut rest = text;
     loop {
@@ -114,85 +101,33 @@ pub(crate) fn draft_of(text: &[u8]) -> Result<Draft, Fault>
     }
 }
 
-// Do the numbers keep the rules.
-fn holding(
-    draft: &Draft,
-    gap: Placed,
-    window: Placed,
-    delay: Placed,
-    look: Placed,
-) -> Result<Agreed, Fault>
-    ensures { result ≡ hold draft.now gap window delay look }
+// The terms that a whole draft has, where its numbers keep the rules.
+pub(crate) fn agreed_by(draft: Draft) -> Result<Agreed, Fault>
+    ensures { result ≡ agreed draft }
 {
-    let terms = Terms {
-        gap: gap.value,
-        window: window.value,
-        delay: delay.value,
-        look: look.value,
-    };
-    let least_window = u64::from(look.value) + u64::from(delay.value) + 1;
-    let least_gap = u64::from(window.value)
-        + 3 * u64::from(delay.value)
-        + 3 * u64::from(look.value);
-    if look.value == 0 {
-        return Err(Fault {
+    let gap = draft.gap.ok_or(Fault::missing(Wrong::NoGap))?;
+    let window = draft.window.ok_or(Fault::missing(Wrong::NoWindow))?;
+    let delay = draft.delay.ok_or(Fault::missing(Wrong::NoDelay))?;
+    let look = draft.look.ok_or(Fault::missing(Wrong::NoLook))?;
+    if draft.deposits.is_empty() {
+        return Err(Fault::missing(Wrong::NoAccount));
+    }
+    match Numbers::new(gap.value, window.value, delay.value, look.value) {
+        Ok(numbers) => Ok(Agreed {
+            terms: numbers.values(),
+            deposits: draft.deposits,
+        }),
+        Err(TooSmall::Look) => Err(Fault {
             line: look.line,
             wrong: Wrong::LookBelowOne,
-        });
-    }
-    if u64::from(window.value) < least_window {
-        return Err(Fault {
+        }),
+        Err(TooSmall::Window) => Err(Fault {
             line: window.line,
             wrong: Wrong::WindowTooShort,
-        });
-    }
-    if u64::from(gap.value) < least_gap {
-        return Err(Fault {
+        }),
+        Err(TooSmall::Gap) => Err(Fault {
             line: gap.line,
             wrong: Wrong::GapTooShort,
-        });
+        }),
     }
-    let deposits = draft.deposits;
-    Ok(Agreed {
-        terms,
-        deposits,
-        count: draft.count,
-    })
-}
-
-// The terms that a whole draft has.
-pub(crate) fn agreed_by(draft: &Draft) -> Result<Agreed, Fault>
-    ensures { result ≡ agreed draft.now }
-{
-    let Some(gap) = draft.gap else {
-        return Err(Fault {
-            line: 0,
-            wrong: Wrong::NoGap,
-        });
-    };
-    let Some(window) = draft.window else {
-        return Err(Fault {
-            line: 0,
-            wrong: Wrong::NoWindow,
-        });
-    };
-    let Some(delay) = draft.delay else {
-        return Err(Fault {
-            line: 0,
-            wrong: Wrong::NoDelay,
-        });
-    };
-    let Some(look) = draft.look else {
-        return Err(Fault {
-            line: 0,
-            wrong: Wrong::NoLook,
-        });
-    };
-    if draft.count == 0 {
-        return Err(Fault {
-            line: 0,
-            wrong: Wrong::NoAccount,
-        });
-    }
-    holding(draft, gap, window, delay, look)
 }

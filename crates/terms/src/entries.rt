@@ -1,37 +1,22 @@
 // What one line says.
 ghost use Rattle.std.specs.Prelude.{◌≡◌};
-ghost use Rattle.std.specs.Str.{bytes_eq};
 ghost use Rattle.lines.specs.Lines.{words};
-ghost use Rattle.terms.specs.Reading.{named, faulty, numbered, funded, words_say, line_says};
+ghost use Rattle.terms.specs.Reading.{named, numbered, funded, words_say, line_says};
 
 use crate::types::{Deposits, Entry, Wrong};
 use lines::{NumberFault, next_word, number, part_at};
 
-fn wrong_of(fault: NumberFault) -> Wrong
-    ensures { result ≡ faulty fault }
-{
-    match fault {
-        NumberFault::NotANumber => Wrong::NotUnderstood,
-        NumberFault::TooLarge => Wrong::NumberTooLarge,
-    }
-}
-
-fn is_word(word: &[u8], name: &[u8]) -> bool
-    ensures { result ≡ bytes_eq word.now name.now }
-{
-    word == name
-}
-
 fn entry_named(word: &[u8], n: u32) -> Result<Entry, Wrong>
     ensures { result ≡ named word.now n }
 {
-    if is_word(word, b"gap") {
+    // a match on the words proves all but window: the search ends before its six bytes do
+    if word == b"gap".as_slice() {
         Ok(Entry::Gap(n))
-    } else if is_word(word, b"window") {
+    } else if word == b"window".as_slice() {
         Ok(Entry::Window(n))
-    } else if is_word(word, b"delay") {
+    } else if word == b"delay".as_slice() {
         Ok(Entry::Delay(n))
-    } else if is_word(word, b"look") {
+    } else if word == b"look".as_slice() {
         Ok(Entry::Look(n))
     } else {
         Err(Wrong::NotUnderstood)
@@ -42,10 +27,7 @@ fn entry_named(word: &[u8], n: u32) -> Result<Entry, Wrong>
 fn number_entry(word: &[u8], digits: &[u8]) -> Result<Entry, Wrong>
     ensures { result ≡ numbered word.now digits.now }
 {
-    match number(digits) {
-        Ok(n) => entry_named(word, n),
-        Err(fault) => Err(wrong_of(fault)),
-    }
+    entry_named(word, number(digits)?)
 }
 
 // The two deposits of an account.
@@ -68,13 +50,11 @@ fn words_entry(line: &[u8]) -> Result<Entry, Wrong>
     let Some(word) = next_word(line) else {
         return Ok(Entry::Nothing);
     };
-    let Some(first) = next_word(word.rest) else {
-        return Err(Wrong::NotUnderstood);
-    };
+    let first = next_word(word.rest).ok_or(Wrong::NotUnderstood)?;
     let Some(second) = next_word(first.rest) else {
         return number_entry(word.text, first.text);
     };
-    if next_word(second.rest).is_some() || !is_word(word.text, b"account") {
+    if next_word(second.rest).is_some() || word.text != b"account".as_slice() {
         return Err(Wrong::NotUnderstood);
     }
     account_entry(first.text, second.text)

@@ -1,5 +1,5 @@
 // The terms of a node, as its owner writes them.
-// Promises: a text is read as specs/Reading.antt says, or what is wrong with it and where. Leans on lines.
+// Promises: a text is read as specs/Reading.antt says, or what is wrong with it and where. Leans on lines and schedule.
 #![tactic(auto)]
 
 ghost use Rattle.std.specs.Prelude.{◌≡◌};
@@ -7,24 +7,19 @@ ghost use Rattle.terms.specs.Reading.{terms_of, TermsHold};
 
 mod drafts;
 mod entries;
+mod faults;
 mod types;
 
-pub use types::{Agreed, Deposits, Fault, Terms, Wrong};
+pub use types::{Agreed, Deposits, Fault, Wrong};
 
 // The terms that a text says, or what is wrong with it.
 pub fn read_terms(text: &[u8]) -> Result<Agreed, Fault>
     ensures { result ≡ terms_of text.now }
 {
     if text.len() > 1_048_576 {
-        return Err(Fault {
-            line: 0,
-            wrong: Wrong::TooLong,
-        });
+        return Err(Fault::missing(Wrong::TooLong));
     }
-    match drafts::draft_of(text) {
-        Ok(draft) => drafts::agreed_by(&draft),
-        Err(fault) => Err(fault),
-    }
+    drafts::agreed_by(drafts::draft_of(text)?)
 }
 
 // The theorem that terms which were read keep the rules.

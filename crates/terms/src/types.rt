@@ -1,17 +1,9 @@
-// The terms of a node, and what can be wrong with a text of them.
-
-// The numbers that all accounts of a node go by, in ticks. (The field: timelock delta, contest period, confirmation
-// time, watch interval.)
-#[derive(Clone, Copy, PartialEq, Eq, Debug)]
-pub struct Terms {
-    pub gap: u32,
-    pub window: u32,
-    pub delay: u32,
-    pub look: u32,
-}
+// What a text of terms says, and what can be wrong with it.
+use arrayvec::ArrayVec;
+use schedule::Terms;
 
 // What the two put into an account at the start.
-#[derive(Clone, Copy, PartialEq, Eq, Debug)]
+#[derive(Clone, Copy, PartialEq, Eq, Debug, Default)]
 pub struct Deposits {
     pub own: u32,
     pub theirs: u32,
@@ -62,21 +54,19 @@ pub struct Placed {
     pub line: usize,
 }
 
-// What the lines have said so far: the first `count` deposits are those of the accounts in order.
-#[derive(Clone, Copy)]
+// What the lines have said so far: the deposits are those of the accounts in order.
+#[derive(Drop)]
 pub struct Draft {
     pub gap: Option<Placed>,
     pub window: Option<Placed>,
     pub delay: Option<Placed>,
     pub look: Option<Placed>,
-    pub deposits: [Deposits; 16],
-    pub count: usize,
+    pub deposits: ArrayVec<Deposits, 16>,
 }
 
-// Terms that hold, and the deposits of the first `count` accounts.
-#[derive(Clone, Copy)]
+// Terms that hold, and the deposits of the accounts in order.
+#[derive(Drop)]
 pub struct Agreed {
     pub terms: Terms,
-    pub deposits: [Deposits; 16],
-    pub count: usize,
+    pub deposits: ArrayVec<Deposits, 16>,
 }

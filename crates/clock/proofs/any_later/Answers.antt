@@ -1,18 +1,14 @@
-use Rattle.std.proofs.Common.{sym, ap, ◌∙◌, arith}
-use Rattle.node_state.specs.Nodes.{state_of}
-use Rattle.clock.specs.Clocks.{is_later}
-use Rattle.clock.proofs.Rounds.{later_more, later_here, later_none}
+use Rattle.std.proofs.Common.{rules, ◌∙◌, ap}
+use Rattle.std.proofs.lemmas.Iterator.{YieldsList-from_slice}
+use Rattle.std.proofs.lemmas.Iterator.Search.{any_from_yields_List}
+use Rattle.account.specs.Accounts.{standing_of}
+use Rattle.clock.specs.Clocks.{is_later, any_later}
+use Rattle.clock.proofs.Later.{any_by_test}
 use Rattle.clock.proofs.any_later.Goals as goal
 
-pub returns-then-is_later : goal.returns-then-is_later
-returns-then-is_later c =
-    later_here (state_of c.args.node.now).accounts c.args.tick c.loop-i.i _ _ (omega arith)
-    (ap (λ a. is_later a.looked c.args.tick) (sym c.account.ensures) ∙ sym c.if-is_later.ensures) c.loop-i.invariant
-
-pub loop-i-preserved : goal.loop-i-preserved
-loop-i-preserved c =
-    later_more (state_of c.args.node.now).accounts c.args.tick c.loop-i.i _ _ (omega arith)
-    (ap (λ a. is_later a.looked c.args.tick) (sym c.account.ensures) ∙ sym c.if-is_later.ensures) c.loop-i.invariant
-
 pub returns : goal.returns
-returns c = later_none (state_of c.args.node.now).accounts c.args.tick c.loop-i.i _ (omega arith) c.loop-i.invariant
+returns c =
+    let xs = c.accounts.result.now in
+    any_from_yields_List (λ a. is_later (standing_of a).looked c.args.tick) _ _ _ c.any.ensures.ran (YieldsList-from_slice xs cc) (λ x b q k. search rules)
+    ∙ any_by_test c.args.tick xs
+    ∙ ap (λ l. any_later l c.args.tick) c.accounts.ensures.value

@@ -1,23 +1,20 @@
-use Rattle.std.proofs.Common.{length, ap, arith}
-use native.Mathlib.Nat.{sub-zero}
-use Rattle.journal.specs.Records.{whole_part, short_record, damaged_record, reach_from}
-use Rattle.journal.proofs.Reaching.{reach_more}
+use Rattle.std.proofs.Common.{length, Err, refl, ap, ◌∙◌, arith}
+use Rattle.std.proofs.lemmas.Result.{err_from_is_err_and}
+use Rattle.journal.specs.Records.{whole_part}
+use Rattle.journal.specs.Readings.{reach}
+use Rattle.journal.proofs.Reaching.{was_whole, reach_past, reach_damaged}
 use Rattle.journal.proofs.reading.whole_part.Goals as goal
 
-pub loop-turn-init : goal.loop-turn-init
+pub loop-got-init : goal.loop-got-init
 unfolding whole_part
-loop-turn-init c = (omega arith, ap (λ k. reach_from k c.args.bytes.now 0) (sub-zero (length c.args.bytes.now)))
+loop-got-init c = (omega arith, (length c.args.bytes.now, omega arith, refl))
 
-pub returns-in-Short : goal.returns-in-Short
-returns-in-Short c =
-    record { value = reach_more (length c.args.bytes.now) c.loop-turn._turn c.loop-turn.at c.args.bytes.now _ short_record (omega arith) c.loop-turn.invariant.1 c.in-Short.ensures.value; within = c.loop-turn.invariant.0 }
+pub returns-in_err-got-clause-value : goal.returns-in_err-got-clause-value
+returns-in_err-got-clause-value c =
+    let p = err_from_is_err_and c.from_residual.result c.from_residual.ensures.1 in
+    ap reach (p.1 ∙ ap (λ y. Err y) p.2) ∙ ap (λ k. Err k) c.in_err-got.ensures.place ∙ reach_damaged c.args.bytes.now c.loop-got.at _ c.loop-got.invariant.1 c.in_err-got.ensures.value
 
-pub returns-in-Damaged : goal.returns-in-Damaged
-returns-in-Damaged c =
-    record { value = reach_more (length c.args.bytes.now) c.loop-turn._turn c.loop-turn.at c.args.bytes.now _ damaged_record (omega arith) c.loop-turn.invariant.1 c.in-Damaged.ensures.value; within = c.loop-turn.invariant.0 }
-
-pub loop-turn-preserved : goal.loop-turn-preserved
-loop-turn-preserved c = (
-  c.in-Whole.ensures.within,
-  reach_more (length c.args.bytes.now) c.loop-turn._turn c.loop-turn.at c.args.bytes.now _ _ (omega arith) c.loop-turn.invariant.1 c.in-Whole.ensures.value,
-)
+pub loop-got-preserved : goal.loop-got-preserved
+loop-got-preserved c =
+    reach_past c.args.bytes.now c.loop-got.at _ c.in-Some.got c.loop-got.invariant.1
+    (was_whole c.args.bytes.now c.loop-got.at c.in_ok-got.field-0 c.in-Some.got c.in-Some.is c.in_ok-got.ensures.value c.in_ok-got.ensures.within c.in_ok-got.ensures.some)

@@ -1,6 +1,10 @@
-use Rattle.std.proofs.Common.{◌≡◌, ◌-◌, ◌≤◌, length}
-use Rattle.journal.specs.Records.{reach_from, whole_part}
+use Rattle.std.proofs.Common.{◌-◌, ◌≤◌, length}
+use Rattle.journal.specs.Records.{whole_part}
+use Rattle.journal.proofs.Reaching.{Reaches}
 use Rattle.journal.proofs.reading.whole_part.Given as goal
 
-abbrev pub invariant-loop-turn : goal.invariant-loop-turn
-invariant-loop-turn l = (l.at ≤ length l.bytes) × (reach_from (length l.bytes - l._turn) l.bytes l.at ≡ whole_part l.bytes)
+abbrev pub invariant-loop-got : goal.invariant-loop-got
+invariant-loop-got l = (l.at ≤ length l.bytes) × Reaches l.bytes l.at (whole_part l.bytes)
+
+abbrev pub decreases-loop-got : goal.decreases-loop-got
+decreases-loop-got l = length l.bytes - l.at

@@ -5,18 +5,18 @@ use Rattle.looking.proofs.Doing.{became_failed}
 use Rattle.looking.proofs.Learnings.{keys_failed, sync_failed, sync_done, synced_state}
 use Rattle.looking.proofs.learning.learn.Goals as goal
 
-pub returns-in_err-some : goal.returns-in_err-some
-returns-in_err-some g c =
+pub returns-in_err-record_all : goal.returns-in_err-record_all
+returns-in_err-record_all g c =
     became_failed _ _ _ _ _ c.from_residual.result c.from_residual.ensures.0
-    (keys_failed (new_keys (state_of c.args.node.now) c.args.shown.now) _ _ c.in_err-some.ensures)
+    (keys_failed (new_keys (state_of c.args.node.now) c.args.shown.now) _ _ c.in_err-record_all.ensures)
 
-pub returns-in_err-sync_if : goal.returns-in_err-sync_if
-returns-in_err-sync_if g c =
-    became_failed _ _ _ _ _ c.from_residual-in_err-sync_if.result c.from_residual-in_err-sync_if.ensures.0
-    (sync_failed (new_keys (state_of c.args.node.now) c.args.shown.now) _ _ _ c.in_ok-some.some c.in_ok-some.ensures.1 c.in_ok-some.ensures.0 c.in_err-sync_if.ensures)
+pub returns-in_err-sync : goal.returns-in_err-sync
+returns-in_err-sync g c =
+    became_failed _ _ _ _ _ c.from_residual-in_err-sync.result c.from_residual-in_err-sync.ensures.0
+    (sync_failed (new_keys (state_of c.args.node.now) c.args.shown.now) _ _ _ c.in_ok-record_all.ensures.1 (cc (c.if-not-branch.false, c.in_ok-record_all.ensures.0)) c.in_err-sync.ensures)
 
 pub returns : goal.returns
 returns g c = (
-  sync_done (new_keys (state_of c.args.node.now) c.args.shown.now) _ _ _ c.in_ok-some.some c.in_ok-some.ensures.1 c.in_ok-some.ensures.0 c.in_ok-sync_if.ensures,
-  c.in_ok-some.ensures.2 ∙ synced_state (new_keys (state_of c.args.node.now) c.args.shown.now) (state_of c.args.node.now),
+  sync_done (new_keys (state_of c.args.node.now) c.args.shown.now) _ _ _ c.in_ok-record_all.ensures.1 (cc (c.if-not-branch.false, c.in_ok-record_all.ensures.0)) c.in_ok-sync.ensures,
+  c.in_ok-record_all.ensures.2 ∙ synced_state (new_keys (state_of c.args.node.now) c.args.shown.now) (state_of c.args.node.now),
 )

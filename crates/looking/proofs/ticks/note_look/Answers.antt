@@ -7,7 +7,7 @@ use Rattle.looking.proofs.ticks.note_look.Goals as goal
 
 pub loop-i-preserved : goal.loop-i-preserved
 loop-i-preserved c =
-    account_changed (looked_of c.terms-delay.result.delay c.args.tick c.args.shown.now) (state_of c.args.node.now) (state_of c.loop-i.node) (state_of c.put.new.self) c.loop-i.i (standing_of c.account.result) (standing_of c.looked-after.result) (omega arith) c.loop-i.invariant c.account.ensures c.looked-after.ensures c.put.ensures
+    account_changed (looked_of c.terms-delay.result.delay c.args.tick c.args.shown.now) (state_of c.args.node.now) (state_of c.loop-i.node) (state_of c.put.new.self) c.loop-i.i (standing_of c.account.result) (standing_of c.looked.result) (omega arith) c.loop-i.invariant c.account.ensures c.looked.ensures c.put.ensures
 
 pub returns : goal.returns
 returns c =

@@ -3,5 +3,5 @@ use Rattle.std.proofs.lemmas.List.{map_push}
 use Rattle.plan.specs.Plans.{act_of}
 use Rattle.plan.proofs.types.Plan.add.Goals as goal
 
-pub returns-in-Ok : goal.returns-in-Ok
-returns-in-Ok c = ap (map act_of) c.in-Ok.ensures.items ∙ map_push act_of (vec_items c.args.self.now.acts) c.args.act
+pub returns : goal.returns
+returns c = ap (map act_of) c.in_ok-push.ensures.items ∙ map_push act_of (vec_items c.args.self.now.acts) c.args.act

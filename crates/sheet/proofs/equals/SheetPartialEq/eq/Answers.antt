@@ -1,7 +1,9 @@
-use Rattle.std.specs.Bool.{one_answer}
-use Rattle.sheet.specs.Contents.{content_of, content_eq}
-use Rattle.sheet.proofs.Equalities.{content_eq_decides}
+use Rattle.std.proofs.Common.{rules}
+use Rattle.sheet.proofs.Equalities.{content_told}
 use Rattle.sheet.proofs.equals.SheetPartialEq.eq.Goals as goal
 
-pub returns-clause-value : goal.returns-clause-value
-returns-clause-value c = one_answer c.same_content.result (content_eq (content_of c.args.self.now) (content_of c.args.other.now)) c.same_content.ensures (content_eq_decides (content_of c.args.self.now) (content_of c.args.other.now))
+pub returns-then-eq-clause-same : goal.returns-then-eq-clause-same
+returns-then-eq-clause-same c = content_told _ _ _ (search rules)
+
+pub returns-else-eq-clause-same : goal.returns-else-eq-clause-same
+returns-else-eq-clause-same c = content_told _ _ _ (search rules)

@@ -1,6 +1,0 @@
-use Rattle.std.proofs.Common.{refl, arith}
-use Rattle.std.proofs.lemmas.List.{take_more_set}
-use Rattle.looking.proofs.keys.Keys.with.Goals as goal
-
-pub returns : goal.returns
-returns c = record { value = take_more_set c.args.self.list c.args.self.count c.args.key (omega arith); count = refl }

@@ -1,5 +1,0 @@
-use Rattle.node_state.proofs.Anywhere.{Passed}
-use Rattle.node_state.proofs.reads.any_in.Given as goal
-
-abbrev pub invariant-loop-account : goal.invariant-loop-account
-invariant-loop-account l = Passed (λ s. s.ins) l.accounts l.lock l.account-index
