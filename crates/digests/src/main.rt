@@ -3,10 +3,11 @@
 
 use anyhow::anyhow;
 use digest::{digest, lock};
+use line_answers::answer_lines;
 use lines::{hex_bytes, number, push_hex};
 use std::alloc::Global;
 use std::env;
-use std::io::{BufRead, BufReader, Write};
+use std::io::Write;
 
 const HELP: &str = "usage: digests
        digests --chain N    start with 32 zero bytes and take the digest N times: the last one
@@ -25,12 +26,10 @@ enum Task {
 }
 
 fn task_of(word: &str, count: &str) -> Task {
-    if word == "--help" {
-        return Task::Help;
-    }
-    match number(count.as_bytes()) {
-        Ok(n) if word == "--chain" => Task::Chain(n),
-        Ok(n) if word == "--repeat" => Task::Repeat(n),
+    match (word, number(count.as_bytes())) {
+        ("--help", _) => Task::Help,
+        ("--chain", Ok(n)) => Task::Chain(n),
+        ("--repeat", Ok(n)) => Task::Repeat(n),
         _ => Task::Unknown,
     }
 }
@@ -49,24 +48,19 @@ fn asked(rt: &HostRuntime) -> anyhow::Result<Task> {
 
 // The digest of the digest, and so on.
 fn chain(count: u32) -> [u8; 32] {
-    let mut key = [0u8; 32];
-    for _ in 0..count {
-        key = lock(&key);
-    }
-    key
+    (0..count).fold([0; 32], |key: [u8; 32], _| lock(&key))
 }
 
 // The digest of 1 MiB, whose first byte is that of the digest before.
 fn repeat(heap: Global, count: u32) -> anyhow::Result<[u8; 32]> {
-    let mut message = Vec::new(heap);
-    for i in 0..1_048_576u32 {
-        message.push(((i * 31 + 7) & 0xff) as u8)?;
-    }
-    let mut last = [0u8; 32];
+    let mut message: Vec<u8> = (0..1_048_576u32)
+        .map(|i| (i.wrapping_mul(31).wrapping_add(7) & 0xff) as u8)
+        .collect(heap)?;
+    let mut last = [0; 32];
     for _ in 0..count {
         last = digest(message.as_slice());
-        if message.len() > 0 {
-            message[0] = last[0];
+        if let Some(first) = message.first_mut() {
+            *first = last[0];
         }
     }
     Ok(last)
@@ -90,31 +84,9 @@ fn written(rt: &HostRuntime, bytes: [u8; 32]) -> anyhow::Result<()> {
     Ok(())
 }
 
-fn answer_lines(rt: &HostRuntime) -> anyhow::Result<()> {
-    let heap = rt.alloc();
-    let mut input = BufReader::new(heap, rt.stdin())?;
-    let mut line = Vec::new(heap);
-    let mut out = Vec::new(heap);
-    for _ in 0..u64::MAX {
-        line.clear();
-        if input.read_until(b'\n', &mut line)? == 0 {
-            break;
-        }
-        let text = line.as_slice();
-        let text = match text.strip_suffix(b"\n") {
-            Some(whole) => whole,
-            None => text,
-        };
-        out.clear();
-        answer(heap, text, &mut out)?;
-        rt.stdout().write_all(out.as_slice())?;
-    }
-    Ok(())
-}
-
 fn run(rt: &HostRuntime) -> anyhow::Result<()> {
     match asked(rt)? {
-        Task::Lines => answer_lines(rt),
+        Task::Lines => answer_lines(rt, answer),
         Task::Chain(count) => written(rt, chain(count)),
         Task::Repeat(count) => written(rt, repeat(rt.alloc(), count)?),
         Task::Help => {

@@ -3,6 +3,7 @@
 
 use anyhow::anyhow;
 use change::{Change, apply};
+use line_answers::answer_lines;
 use lines::{Word, hex_bytes, next_word, push_hex, push_number};
 use proposal::recognise;
 use refusal::Refusal;
@@ -10,7 +11,6 @@ use sheet::{Payment, Sheet};
 use sheet_bytes::{push_sheet, read_payment, read_sheet};
 use std::alloc::{AllocError, Global};
 use std::env;
-use std::io::{BufRead, BufReader, Write};
 
 const HELP: &str = "usage: sheets
 
@@ -19,6 +19,8 @@ Reads lines and answers each by one line, `sheet ..` or `no N`. Sheets and payme
   turn SHEET               the neighbour's view of it
   change NAME SHEET PAYMENT   the next sheet; NAME is offered, passing, paying, getting, returned or giving
   propose HELD SHEET       which change of HELD the neighbour proposes, and the sheet that it gives: `NAME SHEET`";
+
+const PAYMENT_BYTES: usize = 40;
 
 // Why a line has no sheet for an answer.
 #[derive(Drop)]
@@ -39,41 +41,40 @@ impl From<AllocError> for Fault {
     }
 }
 
-fn change_named(word: &[u8]) -> Option<Change> {
-    match word {
-        b"offered" => Some(Change::Offered),
-        b"passing" => Some(Change::PassingOn),
-        b"paying" => Some(Change::Paying),
-        b"getting" => Some(Change::Getting),
-        b"returned" => Some(Change::Returned),
-        b"giving" => Some(Change::GivingUp),
-        _ => None,
-    }
-}
+const CHANGES: [Change; 6] = [
+    Change::Offered,
+    Change::PassingOn,
+    Change::Paying,
+    Change::Getting,
+    Change::Returned,
+    Change::GivingUp,
+];
 
 fn name_of(change: Change) -> &'static [u8] {
     match change {
-        Change::Offered => b"offered ",
-        Change::PassingOn => b"passing ",
-        Change::Paying => b"paying ",
-        Change::Getting => b"getting ",
-        Change::Returned => b"returned ",
-        Change::GivingUp => b"giving ",
+        Change::Offered => b"offered",
+        Change::PassingOn => b"passing",
+        Change::Paying => b"paying",
+        Change::Getting => b"getting",
+        Change::Returned => b"returned",
+        Change::GivingUp => b"giving",
     }
 }
 
-fn word_of(line: &[u8]) -> Result<Word<'_>, Fault> {
-    match next_word(line) {
-        Some(word) => Ok(word),
-        None => Err(Fault::Refused(Refusal::Unreadable)),
-    }
+fn change_named(word: &[u8]) -> Result<Change, Refusal> {
+    CHANGES
+        .iter()
+        .copied()
+        .find(|change| name_of(*change) == word)
+        .ok_or(Refusal::Unreadable)
+}
+
+fn word_of(line: &[u8]) -> Result<Word<'_>, Refusal> {
+    next_word(line).ok_or(Refusal::Unreadable)
 }
 
 fn bytes_of(heap: Global, word: &[u8]) -> Result<Vec<u8>, Fault> {
-    match hex_bytes(heap, word)? {
-        Some(bytes) => Ok(bytes),
-        None => Err(Fault::Refused(Refusal::Unreadable)),
-    }
+    Ok(hex_bytes(heap, word)?.ok_or(Refusal::Unreadable)?)
 }
 
 // A word that is just one sheet.
@@ -81,7 +82,7 @@ fn sheet_of(heap: Global, word: &[u8]) -> Result<Sheet, Fault> {
     let bytes = bytes_of(heap, word)?;
     let read = read_sheet(bytes.as_slice())?;
     if read.used != bytes.len() {
-        return Err(Fault::Refused(Refusal::Unreadable));
+        return Err(Refusal::Unreadable.into());
     }
     Ok(read.sheet)
 }
@@ -89,10 +90,11 @@ fn sheet_of(heap: Global, word: &[u8]) -> Result<Sheet, Fault> {
 // A word that is just one payment.
 fn payment_of(heap: Global, word: &[u8]) -> Result<Payment, Fault> {
     let bytes = bytes_of(heap, word)?;
-    match read_payment(bytes.as_slice(), 0) {
-        Some(payment) if bytes.len() == 40 => Ok(payment),
-        _ => Err(Fault::Refused(Refusal::Unreadable)),
+    let payment = read_payment(bytes.as_slice(), 0).ok_or(Refusal::Unreadable)?;
+    if bytes.len() != PAYMENT_BYTES {
+        return Err(Refusal::Unreadable.into());
     }
+    Ok(payment)
 }
 
 fn push_line(out: &mut Vec<u8>, heap: Global, text: &[u8], sheet: &Sheet) -> Result<(), Fault> {
@@ -123,9 +125,7 @@ fn change_answer(out: &mut Vec<u8>, heap: Global, line: &[u8]) -> Result<(), Fau
     let name = word_of(line)?;
     let held = word_of(name.rest)?;
     let payment = payment_of(heap, word_of(held.rest)?.text)?;
-    let Some(change) = change_named(name.text) else {
-        return Err(Fault::Refused(Refusal::Unreadable));
-    };
+    let change = change_named(name.text)?;
     let next = apply(sheet_of(heap, held.text)?, change, payment)?;
     push_line(out, heap, b"sheet ", &next)
 }
@@ -134,11 +134,10 @@ fn propose_answer(out: &mut Vec<u8>, heap: Global, line: &[u8]) -> Result<(), Fa
     let first = word_of(line)?;
     let held = sheet_of(heap, first.text)?;
     let proposed = sheet_of(heap, word_of(first.rest)?.text)?;
-    let Some(proposal) = recognise(&held, &proposed) else {
-        return Err(Fault::Refused(Refusal::Mismatch));
-    };
+    let proposal = recognise(&held, &proposed).ok_or(Refusal::Mismatch)?;
     let next = apply(held, proposal.change, proposal.payment)?;
-    push_line(out, heap, name_of(proposal.change), &next)
+    out.extend_from_slice(name_of(proposal.change))?;
+    push_line(out, heap, b" ", &next)
 }
 
 fn answer(out: &mut Vec<u8>, heap: Global, line: &[u8]) -> Result<(), Fault> {
@@ -148,13 +147,12 @@ fn answer(out: &mut Vec<u8>, heap: Global, line: &[u8]) -> Result<(), Fault> {
         b"turn" => turn_answer(out, heap, first.rest),
         b"change" => change_answer(out, heap, first.rest),
         b"propose" => propose_answer(out, heap, first.rest),
-        _ => Err(Fault::Refused(Refusal::Unreadable)),
+        _ => Err(Refusal::Unreadable.into()),
     }
 }
 
-// The answer, a refusal too, in place of what `out` held.
-fn answer_or_refusal(out: &mut Vec<u8>, heap: Global, line: &[u8]) -> anyhow::Result<()> {
-    out.clear();
+// The answer, a refusal too.
+fn answer_or_refusal(heap: Global, line: &[u8], out: &mut Vec<u8>) -> anyhow::Result<()> {
     match answer(out, heap, line) {
         Ok(()) => Ok(()),
         Err(Fault::Memory) => Err(anyhow!("out of memory")),
@@ -168,32 +166,11 @@ fn answer_or_refusal(out: &mut Vec<u8>, heap: Global, line: &[u8]) -> anyhow::Re
     }
 }
 
-fn answer_lines(rt: &HostRuntime) -> anyhow::Result<()> {
-    let heap = rt.alloc();
-    let mut input = BufReader::new(heap, rt.stdin())?;
-    let mut line = Vec::new(heap);
-    let mut out = Vec::new(heap);
-    for _ in 0..u64::MAX {
-        line.clear();
-        if input.read_until(b'\n', &mut line)? == 0 {
-            break;
-        }
-        let text = line.as_slice();
-        let text = match text.strip_suffix(b"\n") {
-            Some(whole) => whole,
-            None => text,
-        };
-        answer_or_refusal(&mut out, heap, text)?;
-        rt.stdout().write_all(out.as_slice())?;
-    }
-    Ok(())
-}
-
 fn run(rt: &HostRuntime) -> anyhow::Result<()> {
     let mut words = env::args(rt)?;
     let _program = words.next();
     match words.next() {
-        None => answer_lines(rt),
+        None => answer_lines(rt, answer_or_refusal),
         Some(word) if word.as_str() == "--help" => {
             rt.println(HELP)?;
             Ok(())
