@@ -12,7 +12,7 @@ use account::Account;
 use arrayvec::ArrayVec;
 use node_state::Node;
 use schedule::Terms;
-use sheet::{Payment, same_lock};
+use sheet::Payment;
 
 // At most one for each in of held and of next.
 pub(crate) type Keys = ArrayVec<[u8; 32], 64>;
@@ -20,7 +20,7 @@ pub(crate) type Keys = ArrayVec<[u8; 32], 64>;
 fn is_among(keys: &[[u8; 32]], key: &[u8; 32]) -> bool
     ensures { result ≡ is_among key.now keys.now }
 {
-    keys.iter().any(|other| same_lock(other, key))
+    keys.iter().any(|other| other == key)
 }
 
 // One more at the end, unless it is there.

@@ -4,7 +4,6 @@ ghost use Rattle.looking.specs.Looking.{any_shown, is_dispute, is_shown_for, has
 
 use crate::at::LookAt;
 use crate::types::Shown;
-use sheet::same_lock;
 
 fn is_dispute<F: Fn(u32, u32) -> bool>(statement: &Shown, i: usize, passes: &F) -> bool
     requires { F.IsAlwaysCallable passes.now }
@@ -29,7 +28,7 @@ fn is_shown_for(statement: &Shown, i: usize, key: &[u8; 32]) -> bool
             account,
             key: shown,
             ..
-        } => account as usize == i && same_lock(&shown, key),
+        } => account as usize == i && shown == *key,
     }
 }
 

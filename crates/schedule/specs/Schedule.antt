@@ -7,7 +7,7 @@ use Rattle.schedule.specs.declared.numbers.Numbers.{Numbers}
 
 -- What was made, as plain values.
 abbrev pub values_of : Result Numbers TooSmall → Result Terms TooSmall
-values_of (Ok n) = Ok (record { gap = n.gap; window = n.window; delay = n.delay; look = n.look })
+values_of (Ok n) = Ok n.terms
 values_of (Err e) = Err e
 
 -- Look is at least 1; window has room for a look and a delay; gap has room for a window, three delays and three looks.

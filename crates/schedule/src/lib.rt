@@ -26,26 +26,22 @@ impl Numbers {
         if u64::from(gap) < u64::from(window) + 3 * u64::from(delay) + 3 * u64::from(look) {
             return Err(TooSmall::Gap);
         }
-        Ok(Numbers {
+        let terms = Terms {
             gap,
             window,
             delay,
             look,
-        })
+        };
+        Ok(Numbers { terms })
     }
 
     pub fn values(self) -> Terms
-        ensures gap { result.gap ≡ self.gap }
-        ensures window { result.window ≡ self.window }
-        ensures delay { result.delay ≡ self.delay }
-        ensures look { result.look ≡ self.look }
+        ensures gap { result.gap ≡ self.terms.gap }
+        ensures window { result.window ≡ self.terms.window }
+        ensures delay { result.delay ≡ self.terms.delay }
+        ensures look { result.look ≡ self.terms.look }
     {
-        Terms {
-            gap: self.gap,
-            window: self.window,
-            delay: self.delay,
-            look: self.look,
-        }
+        self.terms
     }
 }
 

@@ -1,15 +1,14 @@
-// The numbers that all accounts go by.
+// The numbers that all accounts go by, where they keep the rules.
 ghost use Rattle.std.specs.Prelude.{◌+◌, ◌*◌, ◌≤◌};
 
-// In ticks. (The field: timelock delta, contest period, confirmation time, watch interval.) The three facts are what the
-// promise rests on: a dispute is answered in time, and the out's dispute is over before the in's end.
+use crate::types::Terms;
+
+// The three facts are what the promise rests on: a dispute is answered in time, and the out's dispute is over before the
+// in's end.
 #[derive(Clone, Copy)]
 pub struct Numbers {
-    pub(crate) gap: u32,
-    pub(crate) window: u32,
-    pub(crate) delay: u32,
-    pub(crate) look: u32,
-    ghost looks: { 1 ≤ look },
-    ghost answered: { look + delay + 1 ≤ window },
-    ghost apart: { window + 3 * delay + 3 * look ≤ gap },
+    pub(crate) terms: Terms,
+    ghost looks: { 1 ≤ terms.look },
+    ghost answered: { terms.look + terms.delay + 1 ≤ terms.window },
+    ghost apart: { terms.window + 3 * terms.delay + 3 * terms.look ≤ terms.gap },
 }

@@ -5,7 +5,7 @@ use crate::progress::Progress;
 use crate::types::{Ending, Happening, Trouble};
 use crate::world::World;
 use account::{Account, Next};
-use node_state::Terms;
+use schedule::Terms;
 use register::Phase;
 
 // Nothing is open on what may count.

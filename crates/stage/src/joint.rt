@@ -2,10 +2,10 @@
 use crate::progress::{Delivery, Progress};
 use crate::types::{Happening, Letter, Trouble};
 use judgement::Signature;
-use node_state::Terms;
+use schedule::Terms;
 use register::{Page, Phase};
 use rules::Message;
-use sheet::{Sheet, same_lock};
+use sheet::Sheet;
 use std::alloc::{AllocError, Global};
 
 // One party's side: its number for the account, what it put in, and the sheets that it signed and sent, in its own view.
@@ -162,7 +162,7 @@ impl Joint {
             .page
             .keys()
             .iter()
-            .any(|known| same_lock(&known.key, &key))
+            .any(|known| known.key == key)
         {
             return Ok(());
         }

@@ -7,9 +7,8 @@ use crate::joint::{End, Joint};
 use crate::player::Player;
 use crate::progress::Progress;
 use crate::world::{Scene, World, player_in};
-use node_state::Terms;
+use schedule::Terms;
 use register::Page;
-use schedule::Numbers;
 use script::{Opening, Script};
 use sheet::Sheet;
 use std::alloc::Global;
@@ -30,17 +29,6 @@ mod types;
 mod world;
 
 pub use types::{Answer, Ending, Event, Happening, Letter, Trouble};
-
-// The numbers as a node has them. Both types are of other crates, so that no `From` can stand here.
-fn terms_of(numbers: Numbers) -> Terms {
-    let values = numbers.values();
-    Terms {
-        gap: values.gap,
-        window: values.window,
-        delay: values.delay,
-        look: values.look,
-    }
-}
 
 fn players_of(heap: Global, script: &Script, terms: Terms) -> Result<Vec<Player>, Trouble> {
     let mut players = Vec::new(heap);
@@ -106,7 +94,7 @@ fn joints_of(
 }
 
 fn world_of(heap: Global, script: &Script) -> Result<World, Trouble> {
-    let terms = terms_of(script.numbers);
+    let terms = script.numbers.values();
     let mut players = players_of(heap, script, terms)?;
     let accounts = joints_of(heap, players.as_mut_slice(), script.openings.as_slice())?;
     let scene = Scene {

@@ -3,7 +3,7 @@ use crate::joint::{Item, Joint};
 use crate::player::Player;
 use crate::progress::Progress;
 use crate::types::{Happening, Trouble};
-use node_state::Terms;
+use schedule::Terms;
 use std::alloc::Global;
 
 // Something that a node sent to the register for an account, and the tick at which it comes in.
