@@ -25,10 +25,7 @@ pub(crate) fn offered(held: &Sheet, proposed: &Sheet) -> Option<Proposal>
     ensures { result ≡ offer_of (content_of held.now) (content_of proposed.now) (content_of proposed.now).ins }
 {
     let (payment, others) = proposed.ins().split_first()?;
-    if !adds_in(held, proposed, payment, others) {
-        return None;
-    }
-    Some(Proposal {
+    adds_in(held, proposed, payment, others).then_some(Proposal {
         change: Change::Offered,
         payment: *payment,
     })

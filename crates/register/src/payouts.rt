@@ -12,7 +12,7 @@ use crate::types::{KeyAt, Page, Phase};
 use digest::lock;
 use sheet::{Payment, Sheet};
 
-// The last tick at which a key may be shown for whatever payment ends before it.
+// Up to this tick a key counts also for a payment whose end is past.
 fn last_tick(until: u64, delay: u32) -> u128
     ensures { result ≡ until + delay }
 {
