@@ -1,4 +1,7 @@
 // What other crates call a fault is trouble here.
+ghost use Rattle.std.specs.Prelude.{Some};
+ghost use Rattle.stage.specs.Troubles.{trouble_text};
+
 use crate::types::Trouble;
 use outcome::Fault;
 use replay::StartFault;
@@ -7,6 +10,8 @@ use std::error::Error;
 use std::fmt;
 
 impl fmt::Display for Trouble {
+    ghost output = { λ trouble. Some (trouble_text trouble) };
+
     fn fmt<W: fmt::Write>(&self, f: &mut fmt::Formatter<W>) -> fmt::Result {
         match *self {
             Trouble::Memory => write!(f, "out of memory"),

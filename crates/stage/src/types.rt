@@ -1,4 +1,8 @@
 // What happens in a rehearsal, one thing after the other.
+ghost use Rattle.std.specs.Prelude.{◌≡◌};
+ghost use Rattle.std.specs.Result.{MatchResult};
+ghost use Rattle.stage.specs.declared.types.Answer.TheVariants.{Taken, Refused};
+
 use refusal::Refusal;
 use register::Phase;
 use script::Command;
@@ -16,6 +20,8 @@ pub enum Answer {
 }
 
 impl From<Result<(), Refusal>> for Answer {
+    ghost from_gives = { λ answer r. MatchResult answer (λ _. r ≡ Taken) (λ refusal. r ≡ Refused refusal) };
+
     fn from(answer: Result<(), Refusal>) -> Answer {
         match answer {
             Ok(()) => Answer::Taken,
