@@ -1,23 +1,26 @@
 // What the node put in, by the first sheets of its file.
 ghost use Rattle.std.specs.Prelude.{◌≡◌, ◌*◌, ◌≤◌};
 ghost use Rattle.node_state.specs.Nodes.{state_of};
-ghost use Rattle.journal.specs.Records.{record_read};
-ghost use Rattle.journal.specs.Readings.{outcome};
-ghost use Rattle.counting.specs.Deposits.{own_read, deposits_of};
+ghost use Rattle.counting.specs.Deposits.{own_first, deposits_of};
 
-use journal::{Reading, Record, read_record};
+use journal::{Record, RecordRead, read_record};
 use node_state::Node;
 
-// Own of a sheet that both have signed; 0 for anything else.
-fn own_of(reading: &Reading) -> u64
-    ensures value { result ≡ own_read (outcome reading.now) }
+// Own of the sheet that both have signed at the place of an account's first sheet; 0 where there is anything else.
+fn own_of(bytes: &[u8], i: usize) -> u64
+    requires { i ≤ 16 }
+    ensures value { result ≡ own_first bytes.now i }
     ensures bound { result ≤ 4294967295 }
 {
-    match reading {
-        Reading::Whole(got) => match &got.record {
-            Record::Both(sheet) => u64::from(sheet.own),
-            _ => 0,
-        },
+    match read_record(bytes, 16 * i) {
+        Ok(
+            Some(
+                RecordRead {
+                    record: Record::Both(sheet),
+                    ..
+                },
+            ),
+        ) => u64::from(sheet.own),
         _ => 0,
     }
 }
@@ -28,8 +31,7 @@ pub(crate) fn deposits(node: &Node, bytes: &[u8]) -> u64
 {
     let mut sum = 0;
     for i in 0..node.many() {
-        let reading = read_record(bytes, 16 * i);
-        sum += own_of(&reading);
+        sum += own_of(bytes, i);
     }
     sum
 }

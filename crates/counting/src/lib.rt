@@ -12,6 +12,7 @@ ghost use Rattle.counting.specs.Deposits.{DepositsRead};
 ghost use Rattle.counting.specs.Leasts.{lessers, least_of};
 ghost use Rattle.counting.specs.Theorems.{FoundIsLeast, RunsOrderly, NotBelow, NotNegative};
 
+use change::amounts;
 use node_state::Node;
 use sheet::Sheet;
 
@@ -26,13 +27,13 @@ pub use types::{Count, Disorder};
 pub fn ins_total(sheet: &Sheet) -> u64
     ensures { result ≡ amounts (content_of sheet.now).ins }
 {
-    orders::held_by(sheet.ins())
+    amounts(sheet.ins())
 }
 
 pub fn outs_total(sheet: &Sheet) -> u64
     ensures { result ≡ amounts (content_of sheet.now).outs }
 {
-    orders::held_by(sheet.outs())
+    amounts(sheet.outs())
 }
 
 // The first account whose sheets are not in order.
@@ -53,9 +54,8 @@ fn lesser_sheets(node: &Node) -> [Sheet; 16]
     ensures whole { length result ≡ 16 }
 {
     let mut sheets = [Sheet::first(0, 0, 0); 16];
-    for i in 0..node.many() {
-        let sheet = orders::lesser_sheet(&node.account(i));
-        sheets[i] = sheet;
+    for (i, account) in node.accounts().iter().enumerate() {
+        sheets[i] = orders::lesser_sheet(account);
     }
     sheets
 }

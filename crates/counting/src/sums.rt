@@ -1,6 +1,7 @@
 // What sheets come to where each key is shown just if that is worse for the node.
-ghost use Rattle.std.specs.Prelude.{◌≡◌, ℕ, ◌*◌, ◌≤◌, not, List, map, length, if◌then◌else◌};
-ghost use Rattle.sheet.specs.Contents.{content_of};
+ghost use Rattle.std.specs.Prelude.{◌≡◌, ℕ, Bool, ◌*◌, ◌≤◌, List, map, length, sum_by, if◌then◌else◌};
+ghost use Rattle.std.specs.Fn.{FnReturnsAt};
+ghost use Rattle.sheet.specs.Contents.{Content, content_of};
 ghost use Rattle.node_state.specs.Nodes.{state_of};
 ghost use Rattle.judgement.specs.Tests.{has_key};
 ghost use Rattle.moments.specs.Moments.{those, worth_by};
@@ -17,39 +18,56 @@ fn amount_if(counts: bool, p: &Payment) -> u64
     if counts { u64::from(p.amount) } else { 0 }
 }
 
+// What the payments amount to whose lock counts.
+fn amount_of<F: Fn(&[u8; 32]) -> bool>(list: &[Payment], counts: F) -> u64
+    requires few { length list.now ≤ 32 }
+    requires callable { F.IsAlwaysCallable counts }
+    ensures value { (f : List ℕ → Bool) → ((lock : List ℕ) (b : Bool) → FnReturnsAt F.Fn counts lock b → b ≡ f lock) → result ≡ those f list.now }
+    ensures bound { result ≤ 32 * 4294967295 }
+{
+    let mut sum = 0;
+    for p in list {
+        sum += amount_if(counts(&p.lock), p);
+    }
+    sum
+}
+
+// What the sheets come to together.
+fn sum_of<F: Fn(&Sheet) -> u64>(sheets: &[Sheet], each: F) -> u64
+    requires few { length sheets.now ≤ 16 }
+    requires callable { F.IsAlwaysCallable each }
+    requires small { (s : _) (n : ℕ) → FnReturnsAt F.Fn each s n → n ≤ 65 * 4294967295 }
+    ensures value { (w : Content → ℕ) → ((s : _) (n : ℕ) → FnReturnsAt F.Fn each s n → n ≡ w (content_of s)) → result ≡ sum_by w (map content_of sheets.now) }
+    ensures bound { result ≤ 16 * (65 * 4294967295) }
+{
+    let mut sum = 0;
+    for sheet in sheets {
+        sum += each(sheet);
+    }
+    sum
+}
+
 // What the payments with a lock amount to.
 fn with_lock(list: &[Payment], lock: &[u8; 32]) -> u64
     requires { length list.now ≤ 32 }
     ensures value { result ≡ with_lock lock.now list.now }
     ensures bound { result ≤ 32 * 4294967295 }
 {
-    let mut sum = 0;
-    for p in list {
-        sum += amount_if(same_lock(&p.lock, lock), p);
-    }
-    sum
+    amount_of(list, |x| same_lock(x, lock))
 }
 
 fn ins_with(sheets: &[Sheet], lock: &[u8; 32]) -> u64
     requires { length sheets.now ≤ 16 }
     ensures { result ≡ ins_with (map content_of sheets.now) lock.now }
 {
-    let mut sum = 0;
-    for sheet in sheets {
-        sum += with_lock(sheet.ins(), lock);
-    }
-    sum
+    sum_of(sheets, |sheet| with_lock(sheet.ins(), lock))
 }
 
 fn outs_with(sheets: &[Sheet], lock: &[u8; 32]) -> u64
     requires { length sheets.now ≤ 16 }
     ensures { result ≡ outs_with (map content_of sheets.now) lock.now }
 {
-    let mut sum = 0;
-    for sheet in sheets {
-        sum += with_lock(sheet.outs(), lock);
-    }
-    sum
+    sum_of(sheets, |sheet| with_lock(sheet.outs(), lock))
 }
 
 // Has the node least of the lock if its key is shown.
@@ -60,43 +78,15 @@ fn is_worse_shown(node: &Node, sheets: &[Sheet], lock: &[u8; 32]) -> bool
     node.key_of(lock).is_some() || ins_with(sheets, lock) <= outs_with(sheets, lock)
 }
 
-// What the ins come to.
-fn ins_coming(node: &Node, sheets: &[Sheet], list: &[Payment]) -> u64
-    requires sheets { length sheets.now ≤ 16 }
-    requires list { length list.now ≤ 32 }
-    ensures value { result ≡ those (is_worse_shown (has_key (state_of node.now)) (map content_of sheets.now)) list.now }
-    ensures bound { result ≤ 32 * 4294967295 }
-{
-    let mut sum = 0;
-    for p in list {
-        sum += amount_if(is_worse_shown(node, sheets, &p.lock), p);
-    }
-    sum
-}
-
-// What comes back of the outs.
-fn outs_back(node: &Node, sheets: &[Sheet], list: &[Payment]) -> u64
-    requires sheets { length sheets.now ≤ 16 }
-    requires list { length list.now ≤ 32 }
-    ensures value { result ≡ those (λ lock. not (is_worse_shown (has_key (state_of node.now)) (map content_of sheets.now) lock)) list.now }
-    ensures bound { result ≤ 32 * 4294967295 }
-{
-    let mut sum = 0;
-    for p in list {
-        sum += amount_if(!is_worse_shown(node, sheets, &p.lock), p);
-    }
-    sum
-}
-
-// What one of the sheets comes to.
+// What one of the sheets comes to: own, the ins that come in, and the outs that come back.
 fn worth(node: &Node, sheets: &[Sheet], sheet: &Sheet) -> u64
     requires { length sheets.now ≤ 16 }
     ensures value { result ≡ worth_by (is_worse_shown (has_key (state_of node.now)) (map content_of sheets.now)) (is_worse_shown (has_key (state_of node.now)) (map content_of sheets.now)) (content_of sheet.now) }
     ensures bound { result ≤ 65 * 4294967295 }
 {
     u64::from(sheet.own)
-        + ins_coming(node, sheets, sheet.ins())
-        + outs_back(node, sheets, sheet.outs())
+        + amount_of(sheet.ins(), |lock| is_worse_shown(node, sheets, lock))
+        + amount_of(sheet.outs(), |lock| !is_worse_shown(node, sheets, lock))
 }
 
 // What all of them come to.
@@ -105,9 +95,5 @@ pub(crate) fn total(node: &Node, sheets: &[Sheet]) -> u64
     ensures value { result ≡ least_by (has_key (state_of node.now)) (map content_of sheets.now) }
     ensures bound { result ≤ 16 * (65 * 4294967295) }
 {
-    let mut sum = 0;
-    for sheet in sheets {
-        sum += worth(node, sheets, sheet);
-    }
-    sum
+    sum_of(sheets, |sheet| worth(node, sheets, sheet))
 }

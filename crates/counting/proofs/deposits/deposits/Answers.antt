@@ -1,12 +1,12 @@
 use Rattle.std.proofs.Common.{◌≡◌, ℕ, ap, ◌∙◌, arith}
 use Rattle.moments.specs.Moments.{sum_to}
-use Rattle.counting.specs.Deposits.{own_read, own_first}
+use Rattle.counting.specs.Deposits.{own_first}
 use Rattle.counting.proofs.Steps.{sum_step}
 use Rattle.counting.proofs.deposits.deposits.Goals as goal
 
 pub loop-i-preserved : goal.loop-i-preserved
 loop-i-preserved c =
-    (sum_step (own_first c.args.bytes.now) c.loop-i.i c.loop-i.sum c.own_of-sum.result (c.own_of-sum.ensures.value ∙ ap own_read c.read_record-reading.ensures.value) c.loop-i.invariant.0, omega (arith, c.loop-i.invariant.1, c.own_of-sum.ensures.bound))
+    (sum_step (own_first c.args.bytes.now) c.loop-i.i c.loop-i.sum c.own_of-sum.result c.own_of-sum.ensures.value c.loop-i.invariant.0, omega (arith, c.loop-i.invariant.1, c.own_of-sum.ensures.bound))
 
 pub returns : goal.returns
 returns c =

@@ -1,6 +1,6 @@
-use Rattle.std.proofs.Common.{◌≡◌, ◌≤◌, length, drop}
+use Rattle.std.proofs.Common.{◌≡◌, drop}
 use Rattle.counting.specs.Orders.{left_of}
 use Rattle.counting.proofs.orders.is_part.Given as goal
 
 abbrev pub invariant-loop-p : goal.invariant-loop-p
-invariant-loop-p l = (left_of (drop l.at l.list) (drop l.p-index l.others) ≡ left_of l.list l.others) × (l.at ≤ length l.list)
+invariant-loop-p l = left_of l.left (drop l.p-index l.others) ≡ left_of l.list l.others

@@ -1,6 +1,0 @@
-use Rattle.std.proofs.Common.{◌≡◌, ◌*◌, ◌≤◌, take}
-use Rattle.change.specs.Totals.{amounts}
-use Rattle.counting.proofs.orders.held_by.Given as goal
-
-abbrev pub invariant-loop-p : goal.invariant-loop-p
-invariant-loop-p l = (l.sum ≡ amounts (take l.p-index l.list)) × (l.sum ≤ 4294967295 * l.p-index)
