@@ -8,7 +8,7 @@ ghost use Rattle.moments.specs.Moments.{those, worth_by};
 ghost use Rattle.counting.specs.Leasts.{with_lock, ins_with, outs_with, is_worse_shown, least_by};
 
 use node_state::Node;
-use sheet::{Payment, Sheet, same_lock};
+use sheet::{Payment, Sheet};
 
 // The payment's amount where it counts.
 fn amount_if(counts: bool, p: &Payment) -> u64
@@ -53,7 +53,7 @@ fn with_lock(list: &[Payment], lock: &[u8; 32]) -> u64
     ensures value { result ≡ with_lock lock.now list.now }
     ensures bound { result ≤ 32 * 4294967295 }
 {
-    amount_of(list, |x| same_lock(x, lock))
+    amount_of(list, |x| x == lock)
 }
 
 fn ins_with(sheets: &[Sheet], lock: &[u8; 32]) -> u64

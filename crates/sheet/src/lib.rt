@@ -9,7 +9,7 @@ mod payments;
 mod sheets;
 mod types;
 
-pub use payments::{find, same_lock};
+pub use payments::find;
 pub use types::{Payment, Sheet};
 
 // The theorem that the neighbour's view of the neighbour's view is the sheet itself.

@@ -1,17 +1,9 @@
 // Lists of payments: finding one by its lock, putting one in front, taking one off.
 ghost use Rattle.std.specs.Prelude.{◌≡◌, ◌≤◌, ◌∷◌, cond, length, take, position, IfSome, Some, None, nat_le, nat_lt};
 ghost use Rattle.std.specs.Option.{option_map};
-ghost use Rattle.std.specs.Str.{bytes_eq};
 ghost use Rattle.sheet.specs.Contents.{firsts, is_for, found, without};
 
 use crate::types::Payment;
-
-// Are two locks the same 32 bytes.
-pub fn same_lock(a: &[u8; 32], b: &[u8; 32]) -> bool
-    ensures { result ≡ bytes_eq a.now b.now }
-{
-    a == b
-}
 
 // The payment with the lock.
 pub fn find(list: &[Payment], lock: &[u8; 32]) -> Option<Payment>
