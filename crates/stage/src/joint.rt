@@ -69,6 +69,7 @@ pub(crate) fn shown_in(phase: &Phase) -> Option<(u32, u64)> {
 }
 
 impl Joint {
+    // A script asks the same of an opening, which a joint doesn't keep: its two ends have what stands there.
     pub(crate) fn is_between(&self, a: usize, b: usize) -> bool {
         let as_written = self.first.party == a && self.second.party == b;
         let turned = self.first.party == b && self.second.party == a;
