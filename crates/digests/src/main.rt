@@ -57,6 +57,7 @@ fn repeat(heap: Global, count: u32) -> anyhow::Result<[u8; 32]> {
         .map(|i| (i.wrapping_mul(31).wrapping_add(7) & 0xff) as u8)
         .collect(heap)?;
     let mut last = [0; 32];
+    // Each turn changes the message in place: a fold over it would be no plainer.
     for _ in 0..count {
         last = digest(message.as_slice());
         if let Some(first) = message.first_mut() {

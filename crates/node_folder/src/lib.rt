@@ -1,7 +1,7 @@
-// What the programs node and node_told share: the folder of a node, and the lines in and out.
-// Promises: one program to a folder; a start from its file, cut back to whole records; acts carried out in their order, and each
-// answer written behind the sync before it. Leans on terms, replay, plan, journal and the crates below them. A file, a pipe and
-// a process have no contract, so these functions have none: what is proved of them is that they end and can't fail otherwise.
+// What the programs node and node_told share: the folder of a node, its start, and the lines in and out.
+// One program works in a folder at a time; a node starts from its file, cut back to whole records; acts are carried out in their
+// order, and each answer is written behind the sync before it. Files, pipes and processes have no contract, so nothing is
+// promised of these functions but that they are safe and end. Leans on terms, replay, plan, journal and the crates below them.
 #![tactic(auto)]
 
 mod acts;

@@ -23,6 +23,14 @@ pub struct Judged {
     pub said: Option<String>,
 }
 
+// What stops the program.
+fn in_words(fault: Fault) -> anyhow::Error {
+    match fault {
+        Fault::Memory => anyhow!("out of memory"),
+        Fault::Failed => anyhow!("an act failed"),
+    }
+}
+
 impl OpenNode {
     // The node from its folder, ready for lines.
     pub fn start(rt: &HostRuntime, folder: &str) -> anyhow::Result<OpenNode> {
@@ -34,11 +42,7 @@ impl OpenNode {
     fn answer(&mut self, rt: &HostRuntime, plan: &Plan, judged: Judged) -> anyhow::Result<()> {
         let heap = rt.alloc();
         let Judged { answer, said } = judged;
-        let answer = match answer {
-            Ok(answer) => answer,
-            Err(Fault::Memory) => return Err(anyhow!("out of memory")),
-            Err(Fault::Failed) => return Err(anyhow!("an act failed")),
-        };
+        let answer = answer.map_err(in_words)?;
         let mut out = Vec::new(heap);
         self.store.carry_out(heap, plan.acts.as_slice(), &mut out)?;
         push_answer(&mut out, answer)?;

@@ -1,36 +1,15 @@
 // How a node comes up from its folder.
 use crate::acts::push_send;
 use crate::store::Store;
-use account::Next;
 use anyhow::anyhow;
-use journal::{Reading, Record, read_record};
-use node_state::{Node, Terms};
+use journal::{Record, read_record};
+use node_state::Node;
 use replay::{StartFault, replay};
 use sheet::Sheet;
 use std::fs;
 use std::fs::{File, OpenOptions};
 use std::io::{ErrorKind, Write};
-use terms::{Agreed, Deposits, Wrong, read_terms};
-
-// What is wrong with a line of the terms, in words.
-fn words_of(wrong: Wrong) -> &'static str {
-    match wrong {
-        Wrong::TooLong => "more than 1048576 bytes",
-        Wrong::NotUnderstood => "not understood",
-        Wrong::NumberTooLarge => "a number above 4294967295",
-        Wrong::Twice => "a second line with this word",
-        Wrong::TooManyAccounts => "more than 16 accounts",
-        Wrong::DepositsTooLarge => "the deposits together are above 4294967295",
-        Wrong::NoGap => "no line with gap",
-        Wrong::NoWindow => "no line with window",
-        Wrong::NoDelay => "no line with delay",
-        Wrong::NoLook => "no line with look",
-        Wrong::NoAccount => "no line with account",
-        Wrong::LookBelowOne => "look is below 1",
-        Wrong::WindowTooShort => "window is below look + delay + 1",
-        Wrong::GapTooShort => "gap is below window + 3 delay + 3 look",
-    }
-}
+use terms::{Agreed, Deposits, Fault, read_terms};
 
 // The owner's terms; says what is wrong with them otherwise.
 fn agreed(rt: &HostRuntime, folder: &str) -> anyhow::Result<Agreed> {
@@ -44,13 +23,11 @@ fn agreed(rt: &HostRuntime, folder: &str) -> anyhow::Result<Agreed> {
     };
     match read_terms(text.as_slice()) {
         Ok(agreed) => Ok(agreed),
-        Err(fault) => {
-            let line = fault.line;
-            let words = words_of(fault.wrong);
+        Err(Fault { line, wrong }) => {
             if line == 0 {
-                eprintln!(rt; "node: {path}: {words}")?;
+                eprintln!(rt; "node: {path}: {wrong}")?;
             } else {
-                eprintln!(rt; "node: {path}, line {line}: {words}")?;
+                eprintln!(rt; "node: {path}, line {line}: {wrong}")?;
             }
             Err(anyhow!("the node did not start"))
         }
@@ -60,14 +37,12 @@ fn agreed(rt: &HostRuntime, folder: &str) -> anyhow::Result<Agreed> {
 // How many bytes the record of an account's first sheet has.
 const FIRST_BYTES: usize = 16;
 
-// The deposits of the accounts.
-fn deposits(agreed: &Agreed) -> &[Deposits] {
-    &agreed.deposits[..agreed.count.min(16)]
-}
-
 // Is the first sheet of account i the one that the terms say.
 fn is_agreed(bytes: &[u8], i: usize, deposits: &Deposits) -> bool {
-    let Reading::Whole(got) = read_record(bytes, i.saturating_mul(FIRST_BYTES)) else {
+    let Ok(found) = read_record(bytes, i.saturating_mul(FIRST_BYTES)) else {
+        return false;
+    };
+    let Some(got) = found else {
         return false;
     };
     let Record::Both(sheet) = got.record else {
@@ -77,8 +52,7 @@ fn is_agreed(bytes: &[u8], i: usize, deposits: &Deposits) -> bool {
 }
 
 // Are the first sheets of the file those of the terms, or a first part of them with nothing after.
-fn fits_terms(bytes: &[u8], firsts: usize, others: bool, agreed: &Agreed) -> bool {
-    let deposits = deposits(agreed);
+fn fits_terms(bytes: &[u8], firsts: usize, others: bool, deposits: &[Deposits]) -> bool {
     firsts <= deposits.len()
         && (firsts == deposits.len() || !others)
         && deposits
@@ -103,9 +77,9 @@ fn contents(rt: &HostRuntime, path: &str) -> anyhow::Result<Option<Vec<u8>>> {
 }
 
 // The accounts that the file doesn't have yet are opened and recorded.
-fn open_missing(node: &mut Node, store: &mut Store, agreed: &Agreed) -> anyhow::Result<()> {
+fn open_missing(node: &mut Node, store: &mut Store, deposits: &[Deposits]) -> anyhow::Result<()> {
     let firsts = node.many();
-    for (i, deposits) in deposits(agreed).iter().enumerate().skip(firsts) {
+    for (i, deposits) in deposits.iter().enumerate().skip(firsts) {
         let Deposits { own, theirs } = *deposits;
         if node.open_account(own, theirs) {
             store.append(&Record::Both(Sheet::first((i & 0xff) as u8, own, theirs)))?;
@@ -118,13 +92,12 @@ fn open_missing(node: &mut Node, store: &mut Store, agreed: &Agreed) -> anyhow::
 fn send_again(rt: &HostRuntime, node: &Node) -> anyhow::Result<()> {
     let heap = rt.alloc();
     let mut out = Vec::new(heap);
-    for i in 0..node.many() {
-        let account = node.account(i);
+    for (i, account) in node.accounts().iter().enumerate() {
         if account.held.number > 0 {
             push_send(&mut out, heap, i, &account.held)?;
         }
-        if let Next::Sent = account.next {
-            push_send(&mut out, heap, i, &account.next_sheet)?;
+        if let Some(next) = account.under_way() {
+            push_send(&mut out, heap, i, next)?;
         }
     }
     out.extend_from_slice(b"ready\n")?;
@@ -145,16 +118,11 @@ fn completed(
     agreed: &Agreed,
 ) -> anyhow::Result<(Node, Store)> {
     let heap = rt.alloc();
+    let deposits = agreed.deposits.as_slice();
     let found = contents(rt, path)?;
     let is_new = found.is_none();
     let bytes = found.unwrap_or(Vec::new(heap));
-    let terms = Terms {
-        gap: agreed.terms.gap,
-        window: agreed.terms.window,
-        delay: agreed.terms.delay,
-        look: agreed.terms.look,
-    };
-    let replayed = match replay(heap, terms, bytes.as_slice()) {
+    let replayed = match replay(heap, agreed.terms, bytes.as_slice()) {
         Ok(replayed) => replayed,
         Err(StartFault::Memory) => return Err(anyhow!("out of memory")),
         Err(StartFault::Damaged { at }) => {
@@ -162,7 +130,7 @@ fn completed(
             return refused(rt, path, words.as_str());
         }
     };
-    if !fits_terms(bytes.as_slice(), replayed.firsts, replayed.others, agreed) {
+    if !fits_terms(bytes.as_slice(), replayed.firsts, replayed.others, deposits) {
         return refused(rt, path, ": not the accounts of terms");
     }
     let mut how = OpenOptions::new();
@@ -171,7 +139,7 @@ fn completed(
     let mut store = Store::new(heap, how.open(rt, path)?);
     let mut node = replayed.node;
     store.cut_back(replayed.whole as u64)?;
-    open_missing(&mut node, &mut store, agreed)?;
+    open_missing(&mut node, &mut store, deposits)?;
     store.sync_all()?;
     if is_new {
         File::open(rt, folder)?.sync_all()?;

@@ -71,12 +71,7 @@ fn warning(
 }
 
 // One line; its acts stand in the plan.
-fn judged(
-    heap: Global,
-    node: &mut Node,
-    plan: &mut Plan,
-    line: &[u8],
-) -> anyhow::Result<Judged> {
+fn judged(heap: Global, node: &mut Node, plan: &mut Plan, line: &[u8]) -> anyhow::Result<Judged> {
     let read = read_request(heap, line)?;
     let said = warning(heap, node, &read)?;
     let answer = taken(node, plan, read);

@@ -59,6 +59,7 @@ fn read_shown(heap: Global, line: &[u8]) -> Result<Option<Vec<Shown>>, AllocErro
 {
     let mut shown = Vec::new(heap);
     let mut rest = line;
+    // The crate lines hands out one word and what follows it, and pushing may fail: a chain would be no plainer.
     while let Some(word) = next_word(rest) {
         let Some(statement) = read_statement(word.text) else {
             return Ok(None);
