@@ -98,7 +98,8 @@ impl Account {
                 .is_some_and(|next| find(next.ins(), lock).is_some())
     }
 
-    // Does a sheet that may count have an out with the lock.
+    // Does a sheet that may count have an out with the lock. As one function with has_in this would want the list as a
+    // closure, which is longer than what the two repeat.
     pub fn has_out(&self, lock: &[u8; 32]) -> bool
         ensures { result ≡ on_either (λ s. s.outs) (standing_of self.now) lock.now }
     {

@@ -2,6 +2,7 @@
 use sheet::Sheet;
 
 // Whether a next is under way: a sheet with the number after held's, signed by the node and perhaps by the neighbour.
+// An enum with the sheet beside it, by a rule of the project; `Account::under_way` answers the two as an Option.
 #[derive(Clone, Copy, PartialEq, Eq, Debug)]
 pub enum Next {
     Nothing,

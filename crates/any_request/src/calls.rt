@@ -11,6 +11,7 @@ use refusal::Refusal;
 use rules::Call;
 use sheet::Payment;
 
+// A name for ==, since definitions compare texts by bytes_eq.
 pub(crate) fn is_word(word: &[u8], name: &[u8]) -> bool
     ensures { result ≡ bytes_eq word.now name.now }
 {
@@ -84,6 +85,7 @@ pub(crate) fn read_pay(line: &[u8]) -> Result<Call, Refusal>
     Ok(Call::Pay { account, lock })
 }
 
+// Two lines as read_pay has, since the kinds of a call have names and no common maker.
 pub(crate) fn read_get(line: &[u8]) -> Result<Call, Refusal>
     ensures { result ≡ place_call Get (place_of (words line.now)) }
 {

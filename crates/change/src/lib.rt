@@ -17,7 +17,7 @@ mod steps;
 mod totals;
 mod types;
 
-pub use totals::{amounts, total};
+pub use totals::{ins_total, outs_total, total};
 pub use types::Change;
 
 // The held sheet with a change, or the refusal.

@@ -37,6 +37,8 @@ fn gained(list: &[Payment], money: u32, lock: &[u8; 32]) -> Result<u32, Refusal>
     money.checked_add(payment.amount).ok_or(Refusal::TooLarge)
 }
 
+// The six changes stand apart, each in the two or three lines that the rules have for it: one function of a list, a sum
+// and a side would say less.
 pub(crate) fn offered(held: Sheet, payment: Payment) -> Result<Sheet, Refusal>
     ensures { on_content result ≡ changed (content_of held) Offered payment }
 {

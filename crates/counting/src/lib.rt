@@ -5,14 +5,12 @@
 
 ghost use Rattle.std.specs.Prelude.{◌≡◌, ℕ, ◌*◌, ◌≤◌, List, map, length, take, IfOk};
 ghost use Rattle.sheet.specs.Contents.{content_of};
-ghost use Rattle.change.specs.Totals.{amounts};
 ghost use Rattle.node_state.specs.Nodes.{state_of};
 ghost use Rattle.counting.specs.Answers.{Counted, Searched, Compared};
 ghost use Rattle.counting.specs.Deposits.{DepositsRead};
 ghost use Rattle.counting.specs.Leasts.{lessers, least_of};
 ghost use Rattle.counting.specs.Theorems.{FoundIsLeast, RunsOrderly, NotBelow, NotNegative};
 
-use change::amounts;
 use node_state::Node;
 use sheet::Sheet;
 
@@ -21,20 +19,8 @@ mod orders;
 mod sums;
 mod types;
 
+pub use change::{ins_total, outs_total};
 pub use types::{Count, Disorder};
-
-// What the ins of a sheet hold together, and what the outs.
-pub fn ins_total(sheet: &Sheet) -> u64
-    ensures { result ≡ amounts (content_of sheet.now).ins }
-{
-    amounts(sheet.ins())
-}
-
-pub fn outs_total(sheet: &Sheet) -> u64
-    ensures { result ≡ amounts (content_of sheet.now).outs }
-{
-    amounts(sheet.outs())
-}
 
 // The first account whose sheets are not in order.
 fn disorder(node: &Node) -> Option<usize>

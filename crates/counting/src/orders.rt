@@ -5,7 +5,7 @@ ghost use Rattle.account.specs.Accounts.{standing_of};
 ghost use Rattle.counting.specs.Orders.{matched, is_part, is_beside, is_below, is_orderly, lesser};
 
 use account::Account;
-use change::amounts;
+use change::{ins_total, outs_total};
 use sheet::{Payment, Sheet};
 
 // What is left of the payments past the first of them, if it is this one; else all of them.
@@ -40,8 +40,8 @@ fn is_beside(a: &[Payment], b: &[Payment]) -> bool
 fn is_below(sheet: &Sheet, other: &Sheet) -> bool
     ensures { result ≡ is_below (content_of sheet.now) (content_of other.now) }
 {
-    let more_in = amounts(sheet.ins()).saturating_sub(amounts(other.ins()));
-    let more_out = amounts(sheet.outs()).saturating_sub(amounts(other.outs()));
+    let more_in = ins_total(sheet).saturating_sub(ins_total(other));
+    let more_out = outs_total(sheet).saturating_sub(outs_total(other));
     u64::from(sheet.own) + more_in + more_out <= u64::from(other.own)
 }
 

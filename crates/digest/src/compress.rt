@@ -104,6 +104,7 @@ pub(crate) fn compress(s: State, block: &[u8; 64]) -> State
     let mut w = [0u32; 64];
     let mut v = first_rounds(s, &mut w, block, 0);
     v = first_rounds(v, &mut w, block, 8);
+    // by the number of eight rounds, since these go over places of one table
     for i in 2..8 {
         v = later_rounds(v, &mut w, 8 * i);
     }

@@ -85,6 +85,7 @@ pub fn whole_part(bytes: &[u8]) -> Result<usize, Damaged>
     ensures within { MatchResult result (λ n. n ≤ length bytes.now) (λ e. e.at ≤ length bytes.now) }
 {
     let mut at = 0;
+    // Each record says where the next begins, and one may be damaged: an iterator would want the place as well.
     while let Some(got) = read_record(bytes, at)? {
         at += got.used;
     }

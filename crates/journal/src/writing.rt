@@ -29,6 +29,7 @@ fn push_two(out: &mut Vec<u8>, bytes: &[u8], more: &[u8]) -> Result<(), AllocErr
     pushed
 }
 
+// The format's number of each kind: a table, since the kinds carry values.
 fn first_byte(record: &Record) -> u8
     ensures { result ≡ first_byte (record_of «record».now) }
 {

@@ -16,7 +16,8 @@ pub enum Shown {
     },
 }
 
-// When a look comes: the first since the node's start, in time, or so many ticks too late.
+// When a look comes: the first since the node's start, in time, or so many ticks too late. Three answers with names: an Option
+// of an Option would say less.
 #[derive(Clone, Copy, PartialEq, Eq, Debug)]
 pub enum Lateness {
     First,

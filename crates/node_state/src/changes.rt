@@ -24,7 +24,8 @@ impl Node {
         })
     }
 
-    // One account more, with these deposits; nothing changes, and the answer is false, where there are 16.
+    // One account more, with these deposits; nothing changes, and the answer is false, where there are 16. There is no
+    // other reason, so that an error would have nothing to say.
     pub fn open_account(&mut self, own: u32, theirs: u32) -> bool
         ensures { (result, state_of self.new) ≡ with_opened (state_of self.old) own theirs }
     {

@@ -1,6 +1,8 @@
 // What an entry comes to, carried out: the answer, what is recorded and sent, and what the node becomes.
 // Promises: each function does the acts of an outcome (specs/Outcomes.antt) in their order, and the node is then what the
-// records say; where something fails, a first part of the acts was done. Leans on node_state and the crates below it.
+// records say; where something fails, a first part of the acts was done.
+// A node and its outside are given side by side: a struct of two `&mut` would be made anew for each call, and each contract
+// would name its parts all the same. Leans on node_state and the crates below it.
 #![tactic(auto)]
 
 ghost use Rattle.outcome.specs.Logs.{ExtendedIsAppended, BegunIsFirstPart};

@@ -16,7 +16,7 @@ pub fn note_signed(node: &mut Node, i: usize, sheet: &Sheet)
     node.put(i, account);
 }
 
-// Both have signed the sheet.
+// Both have signed the sheet. This differs from note_signed in what the account becomes: a closure for that would be longer.
 pub fn note_both(node: &mut Node, i: usize, sheet: &Sheet)
     ensures { state_of node.new ≡ written (both_in i (content_of sheet.now)) (state_of node.old) }
 {

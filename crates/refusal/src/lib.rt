@@ -33,7 +33,7 @@ pub enum Refusal {
 }
 
 impl Refusal {
-    // The number that is answered.
+    // The number that is answered: a table, since two cases share a number.
     pub fn number(self) -> u8
         ensures { result ≡ number_of self }
     {

@@ -17,6 +17,7 @@ pub(crate) fn go_through(start: Node, bytes: &[u8]) -> Result<Replayed, StartFau
     let mut node = start;
     let mut whole = 0;
     let mut others = false;
+    // The reader's answer is taken apart by let .. else, a rule of the project; each record says where the next begins.
     loop {
         let Some(got) = read_record(bytes, whole)? else {
             let firsts = node.many();

@@ -42,7 +42,7 @@ pub(crate) fn take_signed_proposal<O: Outside>(
     accept_both(node, outside, i, next)
 }
 
-// A signature alone.
+// A signature alone. Each message has its own judgement and its own acts: given as closures they would be no shorter.
 pub(crate) fn take_signature<O: Outside>(
     node: &mut Node,
     outside: &mut O,

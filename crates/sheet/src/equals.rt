@@ -6,7 +6,7 @@ ghost use Rattle.sheet.specs.Laws.{sheet_eq_laws};
 
 use crate::types::Sheet;
 
-// Two sheets are equal if they mean the same, whatever stands past their counts.
+// Two sheets are equal if they mean the same, whatever stands past their counts, so that this can't be derived.
 impl PartialEq for Sheet {
     ghost eq = { on content_of content_eq };
 

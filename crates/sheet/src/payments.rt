@@ -31,7 +31,8 @@ pub(crate) fn array_of(list: &[Payment]) -> Option<[Payment; 32]>
     Some(out)
 }
 
-// The first `count` payments with one more before them, and how many these are; None where there are 32.
+// The first `count` payments with one more before them, and how many these are; None where there are 32. Array and count are
+// those of a sheet, a rule of the project.
 pub(crate) fn added(list: [Payment; 32], count: usize, p: Payment) -> Option<([Payment; 32], usize)>
     ensures value { option_map firsts result ≡ cond (nat_lt count 32) (Some (p ∷ take count list)) None }
     ensures few { IfSome result (λ r. r.1 ≤ 32) }

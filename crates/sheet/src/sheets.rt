@@ -69,7 +69,8 @@ impl Sheet {
         Some(next)
     }
 
-    // One out more, which comes first; None where there are 32.
+    // One out more, which comes first; None where there are 32. What outs share with ins are `added` and `removed`; to pick
+    // the arrays by a closure would be longer than these lines.
     pub fn with_out(self, p: Payment) -> Option<Sheet>
         ensures { option_map content_of result ≡ added_to with_outs (content_of self) (content_of self).outs p }
     {
@@ -96,7 +97,7 @@ impl Sheet {
         next
     }
 
-    // The neighbour's view of the sheet.
+    // The neighbour's view of the sheet, written out: own and theirs, ins and outs change places.
     pub fn turned(self) -> Sheet
         ensures { content_of result ≡ turned_of (content_of self) }
     {

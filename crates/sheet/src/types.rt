@@ -12,7 +12,8 @@ pub struct Payment {
 
 // A state of an account, in the view of whoever holds it. (The field: a channel state, or commitment.)
 // `own` is its own money and `theirs` the neighbour's own. Ins are payments to it, taken from `theirs`; outs are
-// payments from it, taken from `own`. What stands in an array past its count is of no matter.
+// payments from it, taken from `own`. What stands in an array past its count is of no matter: arrays with
+// their counts are a rule of the project, which makes a sheet a plain value.
 #[derive(Clone, Copy)]
 pub struct Sheet {
     pub account: u8,

@@ -91,7 +91,7 @@ pub(crate) fn payments_at(bytes: &[u8], at: usize, count: usize) -> [Payment; 32
     array::from_fn(|i| nth_payment(bytes, at, count, i))
 }
 
-// The payment at a place; None where its 40 bytes aren't there.
+// The payment at a place; None where its 40 bytes aren't there. With read_number it shares `holds`: one `if` is left.
 pub fn read_payment(bytes: &[u8], at: usize) -> Option<Payment>
     ensures { result ≡ payment_read bytes.now at }
 {

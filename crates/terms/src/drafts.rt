@@ -90,6 +90,7 @@ pub(crate) fn draft_of(text: &[u8]) -> Result<Draft, Fault>
     };
     let mut line = 1;
     let mut rest = text;
+    // Each part hands on what follows it, and a draft is handed on or refused: a fold of parts would be no plainer.
     loop {
         let part = part_at(rest, b'\n');
         draft = with_line(draft, line, part.text)?;
