@@ -1,4 +1,5 @@
-// The clock of the program node: the tick of its last look. (node_told looks by the crate looking.)
+// The clock of the program node: the tick of its last look. (node_told looks by the crate looking, which takes from here the
+// search for a later look, and how each account is changed.)
 // Promises: a look sets the clock of every account, and one at an earlier tick is refused (specs/Clocks.antt). Leans on node_state.
 #![tactic(auto)]
 

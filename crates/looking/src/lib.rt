@@ -1,6 +1,6 @@
 // Looking: what the node does about what the register shows.
 // Promises: a look is answered, carried out and leaves the node as specs/Looking.antt says; where something fails, a
-// first part of its acts was done (specs/Looks.antt). Leans on node_state, judgement and outcome.
+// first part of its acts was done (specs/Looks.antt). Leans on node_state, judgement, outcome and clock.
 #![tactic(auto)]
 
 ghost use Rattle.std.specs.Prelude.{◌≡◌};

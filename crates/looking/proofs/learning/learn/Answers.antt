@@ -13,10 +13,10 @@ returns-in_err-record_all g c =
 pub returns-in_err-sync : goal.returns-in_err-sync
 returns-in_err-sync g c =
     became_failed _ _ _ _ _ c.from_residual-in_err-sync.result c.from_residual-in_err-sync.ensures.0
-    (sync_failed (new_keys (state_of c.args.node.now) c.args.shown.now) _ _ _ c.in_ok-record_all.ensures.1 (cc (c.if-not-branch.false, c.in_ok-record_all.ensures.0)) c.in_err-sync.ensures)
+    (sync_failed (new_keys (state_of c.args.node.now) c.args.shown.now) _ _ _ c.in_ok-record_all.ensures.1 (cc (c.in_ok-record_all.ensures.0)) c.in_err-sync.ensures)
 
 pub returns : goal.returns
 returns g c = (
-  sync_done (new_keys (state_of c.args.node.now) c.args.shown.now) _ _ _ c.in_ok-record_all.ensures.1 (cc (c.if-not-branch.false, c.in_ok-record_all.ensures.0)) c.in_ok-sync.ensures,
+  sync_done (new_keys (state_of c.args.node.now) c.args.shown.now) _ _ _ c.in_ok-record_all.ensures.1 (cc (c.in_ok-record_all.ensures.0)) c.in_ok-sync.ensures,
   c.in_ok-record_all.ensures.2 ∙ synced_state (new_keys (state_of c.args.node.now) c.args.shown.now) (state_of c.args.node.now),
 )
