@@ -4,17 +4,13 @@ use crate::player::Player;
 use crate::progress::Progress;
 use crate::types::{Ending, Happening, Trouble};
 use crate::world::World;
-use account::{Account, Next};
-use schedule::Terms;
+use account::Account;
 use register::Phase;
+use schedule::Terms;
 
 // Nothing is open on what may count.
 fn is_clean(account: &Account) -> bool {
-    let nothing_held = account.held.ins().is_empty() && account.held.outs().is_empty();
-    match account.next {
-        Next::Nothing => nothing_held,
-        Next::Sent => false,
-    }
+    account.under_way().is_none() && account.held.ins().is_empty() && account.held.outs().is_empty()
 }
 
 impl Joint {
@@ -34,11 +30,11 @@ impl Joint {
             sheet: standing.held,
             frozen: standing.is_frozen(),
         })?;
-        if let Next::Sent = standing.next {
+        if let Some(next) = standing.under_way() {
             progress.note(Happening::Next {
                 node: player.party,
                 account: self.account,
-                sheet: standing.next_sheet,
+                sheet: *next,
             })?;
         }
         Ok(())
@@ -85,10 +81,10 @@ impl Sum {
     fn add(self, put_in: u32, ending: Ending) -> Sum {
         Sum {
             put_in: self.put_in.saturating_add(u64::from(put_in)),
-            came_out: match (self.came_out, ending.paid()) {
-                (Some(sum), Some(paid)) => Some(sum.saturating_add(paid)),
-                _ => None,
-            },
+            came_out: self
+                .came_out
+                .zip(ending.paid())
+                .map(|(sum, paid)| sum.saturating_add(paid)),
         }
     }
 }

@@ -2,9 +2,9 @@
 use crate::progress::{Delivery, Progress};
 use crate::types::{Happening, Letter, Trouble};
 use judgement::Signature;
-use schedule::Terms;
 use register::{Page, Phase};
 use rules::Message;
+use schedule::Terms;
 use sheet::Sheet;
 use std::alloc::{AllocError, Global};
 
@@ -159,12 +159,7 @@ impl Joint {
         progress: &mut Progress,
         key: [u8; 32],
     ) -> Result<(), Trouble> {
-        if self
-            .page
-            .keys()
-            .iter()
-            .any(|known| known.key == key)
-        {
+        if self.page.keys().iter().any(|known| known.key == key) {
             return Ok(());
         }
         self.page.show_key(progress.tick, key)?;

@@ -3,7 +3,6 @@ use crate::joint::Item;
 use crate::player::Player;
 use crate::types::{Happening, Trouble};
 use crate::world::{Arrival, Scene, numbered};
-use account::Next;
 use plan::Act;
 use schedule::comes_in_by;
 use sheet::Sheet;
@@ -104,8 +103,8 @@ impl Scene {
                 if account.held.number > 0 {
                     joint.send_sheet(&mut self.progress, party, account.held)?;
                 }
-                if let Next::Sent = account.next {
-                    joint.send_sheet(&mut self.progress, party, account.next_sheet)?;
+                if let Some(next) = account.under_way() {
+                    joint.send_sheet(&mut self.progress, party, *next)?;
                 }
             }
         }

@@ -2,7 +2,7 @@
 use crate::joint::Item;
 use crate::types::{Answer, Trouble};
 use crate::world::World;
-use account::{Account, Next};
+use account::Account;
 use change::{Change, apply};
 use judgement::Signature;
 use rules::Message;
@@ -42,10 +42,7 @@ fn proposing(sheet: Sheet, signed: bool) -> Message {
 
 // The number of the sheet that another signs: that of the node's next, where there is one.
 fn number_to_sign(account: &Account) -> u32 {
-    match account.next {
-        Next::Sent => account.next_sheet.number,
-        Next::Nothing => account.held.number,
-    }
+    account.under_way().unwrap_or(&account.held).number
 }
 
 impl World {

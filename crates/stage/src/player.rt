@@ -1,13 +1,12 @@
 // A node in the rehearsal: the same node as the program's, and its file in memory.
 use crate::types::{Answer, Trouble};
-use account::Next;
 use journal::{Record, push_record};
 use looking::{Shown, look};
 use node_state::Node;
-use schedule::Terms;
 use plan::{Act, Plan};
 use replay::{Replayed, replay};
 use rules::{Call, Message, call, message};
+use schedule::Terms;
 use sheet::Sheet;
 use std::alloc::{AllocError, Global};
 
@@ -119,15 +118,12 @@ impl Player {
     // The sheet with a number that the node has as its next or as held.
     pub(crate) fn sheet_of(&self, account: usize, number: u32) -> Option<Sheet> {
         let account = self.node.account(account);
-        if let Next::Sent = account.next {
-            if account.next_sheet.number == number {
-                return Some(account.next_sheet);
-            }
-        }
-        if account.held.number == number {
-            return Some(account.held);
-        }
-        None
+        account
+            .under_way()
+            .into_iter()
+            .chain([&account.held])
+            .copied()
+            .find(|sheet| sheet.number == number)
     }
 
     fn carry(&mut self, act: &Act) -> Result<(), AllocError> {
