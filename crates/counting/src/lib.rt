@@ -40,6 +40,7 @@ pub fn outs_total(sheet: &Sheet) -> u64
 fn disorder(node: &Node) -> Option<usize>
     ensures { Searched (state_of node.now) result }
 {
+    // a loop: of a position in the accounts, the search did not prove which account it names
     for i in 0..node.many() {
         if !orders::is_orderly(&node.account(i)) {
             return Some(i);
