@@ -1,12 +1,11 @@
 // The least that a node can come out with: reads a node's file, and prints its sheets and the least.
 #![tactic(auto)]
 
-use account::Next;
 use anyhow::anyhow;
 use counting::{Count, count, ins_total, outs_total};
 use node_state::Node;
-use schedule::Terms;
 use replay::{Replayed, StartFault, replay};
+use schedule::Terms;
 use sheet::Sheet;
 use std::alloc::{AllocError, Global};
 use std::process::ExitCode;
@@ -23,36 +22,6 @@ held and next sheets, and then
   difference N   the least less the deposits
 With --json each line is an object. docs/FORMATS.md has the lines.";
 
-// What the arguments ask for.
-enum Task {
-    Count { word: String, json: bool },
-    Help,
-    Usage,
-}
-
-fn asked(rt: &HostRuntime) -> anyhow::Result<Task> {
-    let mut words = env::args(rt)?;
-    let _program = words.next();
-    let Some(first) = words.next() else {
-        return Ok(Task::Usage);
-    };
-    if first.as_str() == "--help" {
-        return Ok(Task::Help);
-    }
-    let json = first.as_str() == "--json";
-    let mut word = first;
-    if json {
-        match words.next() {
-            Some(second) => word = second,
-            None => return Ok(Task::Usage),
-        }
-    }
-    if words.next().is_some() {
-        return Ok(Task::Usage);
-    }
-    Ok(Task::Count { word, json })
-}
-
 // The node's file in a folder, or the file itself.
 fn path_of(rt: &HostRuntime, word: &str) -> anyhow::Result<String> {
     if let Ok(found) = fs::metadata(rt, word) {
@@ -63,58 +32,94 @@ fn path_of(rt: &HostRuntime, word: &str) -> anyhow::Result<String> {
     Ok(format!(in rt.alloc(); "{word}")?)
 }
 
-fn sheet_text(heap: Global, sheet: &Sheet) -> Result<String, AllocError> {
-    let (number, own, theirs) = (sheet.number, sheet.own, sheet.theirs);
-    let (ins, outs) = (sheet.ins().len(), sheet.outs().len());
-    let (in_sum, out_sum) = (ins_total(sheet), outs_total(sheet));
-    format!(in heap;
-        "{number}: own {own}, theirs {theirs}, ins {ins} ({in_sum}), outs {outs} ({out_sum})"
-    )
+// How a sheet, an account with its sheets and the count are written.
+trait Form {
+    fn sheet(heap: Global, sheet: &Sheet) -> Result<String, AllocError>;
+
+    fn account(
+        heap: Global,
+        i: usize,
+        held: &str,
+        next: Option<&str>,
+    ) -> Result<String, AllocError>;
+
+    fn count(heap: Global, counted: Count) -> Result<String, AllocError>;
 }
 
-fn sheet_json(heap: Global, sheet: &Sheet) -> Result<String, AllocError> {
-    let (number, own, theirs) = (sheet.number, sheet.own, sheet.theirs);
-    let (ins, outs) = (sheet.ins().len(), sheet.outs().len());
-    let (in_sum, out_sum) = (ins_total(sheet), outs_total(sheet));
-    format!(in heap;
-        "{{\"number\":{number},\"own\":{own},\"theirs\":{theirs},\"ins\":{ins},\"ins_total\":{in_sum},\"outs\":{outs},\"outs_total\":{out_sum}}}"
-    )
-}
+struct Text;
 
-fn print_text(rt: &HostRuntime, node: &Node) -> anyhow::Result<()> {
-    for i in 0..node.many() {
-        let account = node.account(i);
-        let held = sheet_text(rt.alloc(), &account.held)?;
-        match account.next {
-            Next::Nothing => println!(rt; "account {i}  held {held}")?,
-            Next::Sent => {
-                let next = sheet_text(rt.alloc(), &account.next_sheet)?;
-                println!(rt; "account {i}  held {held}  next {next}")?;
-            }
+struct Json;
+
+impl Form for Text {
+    fn sheet(heap: Global, sheet: &Sheet) -> Result<String, AllocError> {
+        let (number, own, theirs) = (sheet.number, sheet.own, sheet.theirs);
+        let (ins, outs) = (sheet.ins().len(), sheet.outs().len());
+        let (in_sum, out_sum) = (ins_total(sheet), outs_total(sheet));
+        format!(in heap;
+            "{number}: own {own}, theirs {theirs}, ins {ins} ({in_sum}), outs {outs} ({out_sum})"
+        )
+    }
+
+    fn account(
+        heap: Global,
+        i: usize,
+        held: &str,
+        next: Option<&str>,
+    ) -> Result<String, AllocError> {
+        match next {
+            None => format!(in heap; "account {i}  held {held}"),
+            Some(next) => format!(in heap; "account {i}  held {held}  next {next}"),
         }
     }
-    Ok(())
-}
 
-fn print_json(rt: &HostRuntime, node: &Node) -> anyhow::Result<()> {
-    for i in 0..node.many() {
-        let account = node.account(i);
-        let held = sheet_json(rt.alloc(), &account.held)?;
-        let next = match account.next {
-            Next::Nothing => format!(in rt.alloc(); "null")?,
-            Next::Sent => sheet_json(rt.alloc(), &account.next_sheet)?,
-        };
-        println!(rt; "{{\"account\":{i},\"held\":{held},\"next\":{next}}}")?;
+    fn count(heap: Global, counted: Count) -> Result<String, AllocError> {
+        let (least, deposits, difference) = (counted.least, counted.deposits, counted.difference);
+        format!(in heap; "least {least}\ndeposits {deposits}\ndifference {difference}")
     }
-    Ok(())
 }
 
-fn print_count(rt: &HostRuntime, counted: Count, json: bool) -> anyhow::Result<()> {
-    let (least, deposits, difference) = (counted.least, counted.deposits, counted.difference);
-    if json {
-        println!(rt; "{{\"least\":{least},\"deposits\":{deposits},\"difference\":{difference}}}")?;
-    } else {
-        println!(rt; "least {least}\ndeposits {deposits}\ndifference {difference}")?;
+impl Form for Json {
+    fn sheet(heap: Global, sheet: &Sheet) -> Result<String, AllocError> {
+        let (number, own, theirs) = (sheet.number, sheet.own, sheet.theirs);
+        let (ins, outs) = (sheet.ins().len(), sheet.outs().len());
+        let (in_sum, out_sum) = (ins_total(sheet), outs_total(sheet));
+        format!(in heap;
+            "{{\"number\":{number},\"own\":{own},\"theirs\":{theirs},\"ins\":{ins},\"ins_total\":{in_sum},\"outs\":{outs},\"outs_total\":{out_sum}}}"
+        )
+    }
+
+    fn account(
+        heap: Global,
+        i: usize,
+        held: &str,
+        next: Option<&str>,
+    ) -> Result<String, AllocError> {
+        let next = next.unwrap_or("null");
+        format!(in heap; "{{\"account\":{i},\"held\":{held},\"next\":{next}}}")
+    }
+
+    fn count(heap: Global, counted: Count) -> Result<String, AllocError> {
+        let (least, deposits, difference) = (counted.least, counted.deposits, counted.difference);
+        format!(in heap;
+            "{{\"least\":{least},\"deposits\":{deposits},\"difference\":{difference}}}"
+        )
+    }
+}
+
+fn print_accounts<F: Form>(rt: &HostRuntime, node: &Node) -> anyhow::Result<()> {
+    let heap = rt.alloc();
+    for (i, account) in node.accounts().iter().enumerate() {
+        let held = F::sheet(heap, &account.held)?;
+        let line = match account.under_way() {
+            None => F::account(heap, i, held.as_str(), None)?,
+            Some(sheet) => F::account(
+                heap,
+                i,
+                held.as_str(),
+                Some(F::sheet(heap, sheet)?.as_str()),
+            )?,
+        };
+        println!(rt; "{line}")?;
     }
     Ok(())
 }
@@ -148,7 +153,7 @@ fn contents(rt: &HostRuntime, path: &str) -> anyhow::Result<Option<Vec<u8>>> {
     }
 }
 
-fn run(rt: &HostRuntime, word: &str, json: bool) -> anyhow::Result<ExitCode> {
+fn run<F: Form>(rt: &HostRuntime, word: &str) -> anyhow::Result<ExitCode> {
     let file = path_of(rt, word)?;
     let path = file.as_str();
     let Some(bytes) = contents(rt, path)? else {
@@ -169,30 +174,38 @@ fn run(rt: &HostRuntime, word: &str, json: bool) -> anyhow::Result<ExitCode> {
             return Ok(ExitCode::FAILURE);
         }
     };
-    if json {
-        print_json(rt, &replayed.node)?;
-    } else {
-        print_text(rt, &replayed.node)?;
-    }
-    print_count(rt, counted, json)?;
+    print_accounts::<F>(rt, &replayed.node)?;
+    let lines = F::count(rt.alloc(), counted)?;
+    println!(rt; "{lines}")?;
     Ok(ExitCode::SUCCESS)
 }
 
-// Does what the arguments ask for; what stops it is said on standard error.
+// What stops a count is said on standard error.
+fn attempt<F: Form>(rt: &HostRuntime, word: &str) -> anyhow::Result<ExitCode> {
+    let done = run::<F>(rt, word);
+    if let Err(e) = &done {
+        eprintln!(rt; "count: {e}")?;
+    }
+    done
+}
+
+// Does what the arguments ask for.
 fn attend(rt: &HostRuntime) -> anyhow::Result<ExitCode> {
-    match asked(rt)? {
-        Task::Count { word, json } => match run(rt, word.as_str(), json) {
-            Ok(code) => Ok(code),
-            Err(e) => {
-                eprintln!(rt; "count: {e}")?;
-                Err(e)
-            }
-        },
-        Task::Help => {
+    let mut words = env::args(rt)?;
+    let _program = words.next();
+    let (first, second, third) = (words.next(), words.next(), words.next());
+    match (&first, &second, &third) {
+        (Some(first), _, _) if first.as_str() == "--help" => {
             println!(rt; "{HELP}")?;
             Ok(ExitCode::SUCCESS)
         }
-        Task::Usage => {
+        (Some(first), Some(word), None) if first.as_str() == "--json" => {
+            attempt::<Json>(rt, word.as_str())
+        }
+        (Some(word), None, None) if word.as_str() != "--json" => {
+            attempt::<Text>(rt, word.as_str())
+        }
+        _ => {
             eprintln!(rt;
                 "count: one folder or one file: count [--json] FOLDER (count --help says more)"
             )?;
@@ -203,8 +216,5 @@ fn attend(rt: &HostRuntime) -> anyhow::Result<ExitCode> {
 
 // What stops the program ends it with status 1.
 fn main(rt: HostRuntime) -> ExitCode {
-    match attend(&rt) {
-        Ok(code) => code,
-        Err(_) => ExitCode::FAILURE,
-    }
+    attend(&rt).unwrap_or(ExitCode::FAILURE)
 }

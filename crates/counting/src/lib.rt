@@ -26,6 +26,7 @@ pub use types::{Count, Disorder};
 fn disorder(node: &Node) -> Option<usize>
     ensures { Searched (state_of node.now) result }
 {
+    // a loop: of a position in the accounts, the search did not prove which account it names
     for i in 0..node.many() {
         if !orders::is_orderly(&node.account(i)) {
             return Some(i);

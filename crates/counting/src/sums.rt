@@ -25,6 +25,7 @@ fn amount_of<F: Fn(&[u8; 32]) -> bool>(list: &[Payment], counts: F) -> u64
     ensures value { (f : List ℕ → Bool) → ((lock : List ℕ) (b : Bool) → FnReturnsAt F.Fn counts lock b → b ≡ f lock) → result ≡ those f list.now }
     ensures bound { result ≤ 32 * 4294967295 }
 {
+    // a loop: for map and sum, what proves the bound was not found
     let mut sum = 0;
     for p in list {
         sum += amount_if(counts(&p.lock), p);
@@ -40,6 +41,7 @@ fn sum_of<F: Fn(&Sheet) -> u64>(sheets: &[Sheet], each: F) -> u64
     ensures value { (w : Content → ℕ) → ((s : _) (n : ℕ) → FnReturnsAt F.Fn each s n → n ≡ w (content_of s)) → result ≡ sum_by w (map content_of sheets.now) }
     ensures bound { result ≤ 16 * (65 * 4294967295) }
 {
+    // a loop, as in amount_of
     let mut sum = 0;
     for sheet in sheets {
         sum += each(sheet);
