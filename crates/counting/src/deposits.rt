@@ -30,6 +30,7 @@ pub(crate) fn deposits(node: &Node, bytes: &[u8]) -> u64
     ensures bound { result ≤ 16 * 4294967295 }
 {
     let mut sum = 0;
+    // An account's number is all that says where its first sheet stands: map and sum would count it the same.
     for i in 0..node.many() {
         sum += own_of(bytes, i);
     }

@@ -10,6 +10,7 @@ use crate::types::StartFault;
 use digest::lock as lock_of;
 use journal::Record;
 use node_state::{Node, Route};
+use outcome::{note_both, note_signed};
 use std::alloc::AllocError;
 
 // A first sheet opens an account: there is room for it where it fits. A key that is known already changes nothing.
@@ -17,18 +18,12 @@ fn take(node: &mut Node, record: &Record) -> Result<(), AllocError>
     ensures { state_of node.new ≡ (if is_ok result then taken (record_of «record».now) (state_of node.old) else state_of node.old) }
 {
     match record {
-        Record::Signed(sheet) => {
-            let i = usize::from(sheet.account);
-            let account = node.account(i).signed(*sheet);
-            node.put(i, account);
-        }
+        Record::Signed(sheet) => note_signed(node, usize::from(sheet.account), sheet),
         Record::Both(sheet) => {
             if sheet.number == 0 {
                 node.open_account(sheet.own, sheet.theirs);
             } else {
-                let i = usize::from(sheet.account);
-                let account = node.account(i).holding(*sheet);
-                node.put(i, account);
+                note_both(node, usize::from(sheet.account), sheet);
             }
         }
         Record::Passed { lock, from, to } => node.add_route(
