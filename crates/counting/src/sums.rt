@@ -25,7 +25,7 @@ fn amount_of<F: Fn(&[u8; 32]) -> bool>(list: &[Payment], counts: F) -> u64
     ensures value { (f : List ℕ → Bool) → ((lock : List ℕ) (b : Bool) → FnReturnsAt F.Fn counts lock b → b ≡ f lock) → result ≡ those f list.now }
     ensures bound { result ≤ 32 * 4294967295 }
 {
-    // a loop: for map and sum, what proves the bound was not found
+    // a loop, as in change's amounts: for map and sum there, what proves the bound was not found
     let mut sum = 0;
     for p in list {
         sum += amount_if(counts(&p.lock), p);
