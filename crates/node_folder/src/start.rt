@@ -24,10 +24,9 @@ fn agreed(rt: &HostRuntime, folder: &str) -> anyhow::Result<Agreed> {
     match read_terms(text.as_slice()) {
         Ok(agreed) => Ok(agreed),
         Err(Fault { line, wrong }) => {
-            if line == 0 {
-                eprintln!(rt; "node: {path}: {wrong}")?;
-            } else {
-                eprintln!(rt; "node: {path}, line {line}: {wrong}")?;
+            match line {
+                Some(line) => eprintln!(rt; "node: {path}, line {line}: {wrong}")?,
+                None => eprintln!(rt; "node: {path}: {wrong}")?,
             }
             Err(anyhow!("the node did not start"))
         }

@@ -61,14 +61,18 @@ line_says line = words_say (words (cut_at 35 line).0)
 abbrev pub placed : ℕ → ℕ → Option Placed
 placed n line = Some (record { value = n; line = line })
 
+-- What is wrong in a line.
+abbrev pub faulted : ℕ → Wrong → Fault
+faulted line w = record { line = Some line; wrong = w }
+
 abbrev pub once : Option Placed → ℕ → Draft → Result Draft Fault
 once None line d = Ok d
-once (Some p) line d = Err (record { line = line; wrong = Twice })
+once (Some p) line d = Err (faulted line Twice)
 
 -- A word's number, where the word did not stand before.
 abbrev pub placed_once : Option Placed → ℕ → ℕ → Result (Option Placed) Fault
 placed_once None line n = Ok (placed n line)
-placed_once (Some p) line n = Err (record { line = line; wrong = Twice })
+placed_once (Some p) line n = Err (faulted line Twice)
 
 abbrev pub said : Draft → ℕ → Entry → Result Draft Fault
 said d line Nothing = Ok d
@@ -81,24 +85,24 @@ said d line (Delay n) =
 said d line (Look n) =
     once d.look line (record { gap = d.gap; window = d.window; delay = d.delay; look = placed n line; deposits = d.deposits })
 said d line (Account a) =
-    cond (nat_le 16 (array_vec_len d.deposits)) (Err (record { line = line; wrong = TooManyAccounts }))
-    (cond (nat_lt 4294967295 (a.own + a.theirs)) (Err (record { line = line; wrong = DepositsTooLarge }))
+    cond (nat_le 16 (array_vec_len d.deposits)) (Err (faulted line TooManyAccounts))
+    (cond (nat_lt 4294967295 (a.own + a.theirs)) (Err (faulted line DepositsTooLarge))
     (Ok (record { gap = d.gap; window = d.window; delay = d.delay; look = d.look; deposits = record { items = d.deposits.items ++ a ∷ [] } })))
 
 abbrev pub said_by : Draft → ℕ → Result Entry Wrong → Result Draft Fault
 said_by d line (Ok e) = said d line e
-said_by d line (Err w) = Err (record { line = line; wrong = w })
+said_by d line (Err w) = Err (faulted line w)
 
 -- The terms that a whole draft has: what is missing is looked for first, then whether they hold.
 abbrev pub hold : Draft → (gap window delay look : Placed) → Result Agreed Fault
 hold d gap window delay look =
-    cond (look.value == 0) (Err (record { line = look.line; wrong = LookBelowOne }))
-    (cond (nat_lt window.value (look.value + delay.value + 1)) (Err (record { line = window.line; wrong = WindowTooShort }))
-    (cond (nat_lt gap.value (window.value + 3 * delay.value + 3 * look.value)) (Err (record { line = gap.line; wrong = GapTooShort }))
+    cond (look.value == 0) (Err (faulted look.line LookBelowOne))
+    (cond (nat_lt window.value (look.value + delay.value + 1)) (Err (faulted window.line WindowTooShort))
+    (cond (nat_lt gap.value (window.value + 3 * delay.value + 3 * look.value)) (Err (faulted gap.line GapTooShort))
     (Ok (record { terms = record { gap = gap.value; window = window.value; delay = delay.value; look = look.value }; deposits = d.deposits }))))
 
 abbrev pub missing : Wrong → Fault
-missing w = record { line = 0; wrong = w }
+missing w = record { line = None; wrong = w }
 
 abbrev pub with_look : Draft → (gap window delay : Placed) → Option Placed → Result Agreed Fault
 with_look d gap window delay None = Err (missing NoLook)

@@ -15,10 +15,7 @@ fn once(before: Option<Placed>, line: usize, value: u32) -> Result<Option<Placed
 {
     match before {
         None => Ok(Some(Placed { value, line })),
-        Some(_) => Err(Fault {
-            line,
-            wrong: Wrong::Twice,
-        }),
+        Some(_) => Err(Fault::at(line, Wrong::Twice)),
     }
 }
 
@@ -27,16 +24,10 @@ fn with_account(mut draft: Draft, line: usize, deposits: Deposits) -> Result<Dra
     ensures { result ≡ said draft line (Entry.Account deposits) }
 {
     if draft.deposits.is_full() {
-        return Err(Fault {
-            line,
-            wrong: Wrong::TooManyAccounts,
-        });
+        return Err(Fault::at(line, Wrong::TooManyAccounts));
     }
     if deposits.own.checked_add(deposits.theirs).is_none() {
-        return Err(Fault {
-            line,
-            wrong: Wrong::DepositsTooLarge,
-        });
+        return Err(Fault::at(line, Wrong::DepositsTooLarge));
     }
     draft.deposits.push(deposits);
     Ok(draft)
@@ -72,7 +63,7 @@ pub(crate) fn with_entry(draft: Draft, line: usize, entry: Entry) -> Result<Draf
 fn with_line(draft: Draft, line: usize, text: &[u8]) -> Result<Draft, Fault>
     ensures { result ≡ said_by draft line (line_says text.now) }
 {
-    let entry = entry_of(text).map_err(|wrong| Fault { line, wrong })?;
+    let entry = entry_of(text).map_err(|wrong| Fault::at(line, wrong))?;
     with_entry(draft, line, entry)
 }
 
@@ -118,17 +109,8 @@ pub(crate) fn agreed_by(draft: Draft) -> Result<Agreed, Fault>
             terms: numbers.values(),
             deposits: draft.deposits,
         }),
-        Err(TooSmall::Look) => Err(Fault {
-            line: look.line,
-            wrong: Wrong::LookBelowOne,
-        }),
-        Err(TooSmall::Window) => Err(Fault {
-            line: window.line,
-            wrong: Wrong::WindowTooShort,
-        }),
-        Err(TooSmall::Gap) => Err(Fault {
-            line: gap.line,
-            wrong: Wrong::GapTooShort,
-        }),
+        Err(TooSmall::Look) => Err(Fault::at(look.line, Wrong::LookBelowOne)),
+        Err(TooSmall::Window) => Err(Fault::at(window.line, Wrong::WindowTooShort)),
+        Err(TooSmall::Gap) => Err(Fault::at(gap.line, Wrong::GapTooShort)),
     }
 }

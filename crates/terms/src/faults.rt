@@ -1,6 +1,6 @@
 // What is wrong, from the faults of others, and in words.
 ghost use Rattle.std.specs.Prelude.{◌≡◌};
-ghost use Rattle.terms.specs.Reading.{faulty, missing};
+ghost use Rattle.terms.specs.Reading.{faulty, faulted, missing};
 
 use crate::types::{Fault, Wrong};
 use lines::NumberFault;
@@ -18,11 +18,20 @@ impl From<NumberFault> for Wrong {
 }
 
 impl Fault {
+    pub(crate) fn at(line: usize, wrong: Wrong) -> Fault
+        ensures { result ≡ faulted line wrong }
+    {
+        Fault {
+            line: Some(line),
+            wrong,
+        }
+    }
+
     // What is missing stands in no line.
     pub(crate) fn missing(wrong: Wrong) -> Fault
         ensures { result ≡ missing wrong }
     {
-        Fault { line: 0, wrong }
+        Fault { line: None, wrong }
     }
 }
 

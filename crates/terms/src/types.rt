@@ -40,10 +40,10 @@ pub enum Wrong {
     GapTooShort,
 }
 
-// What is wrong, and in which line, counted from 1; 0 where no one line has it.
+// What is wrong, and in which line, counted from 1; None where no one line has it.
 #[derive(Clone, Copy, PartialEq, Eq, Debug)]
 pub struct Fault {
-    pub line: usize,
+    pub line: Option<usize>,
     pub wrong: Wrong,
 }
 
