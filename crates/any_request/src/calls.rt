@@ -25,13 +25,7 @@ pub(crate) fn plain_number(word: &[u8]) -> Result<u32, Refusal>
     number(word).map_err(|_| Refusal::Unreadable)
 }
 
-fn pass_call(
-    i: &[u8],
-    j: &[u8],
-    lock: &[u8],
-    amount: &[u8],
-    last: &[u8],
-) -> Result<Call, Refusal>
+fn pass_call(i: &[u8], j: &[u8], lock: &[u8], amount: &[u8], last: &[u8]) -> Result<Call, Refusal>
     ensures { result ≡ pass_call i.now j.now lock.now amount.now last.now }
 {
     let from = plain_number(i)?;

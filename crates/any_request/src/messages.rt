@@ -72,8 +72,5 @@ pub(crate) fn read_message(bytes: &[u8]) -> Result<Message, Refusal>
 pub(crate) fn read_pair(sheet: &[u8], signature: &[u8]) -> Result<Message, Refusal>
     ensures { on_told result ≡ pair_read sheet.now signature.now }
 {
-    Ok(Message::ProposedSigned(
-        read_proposed(sheet)?,
-        read_signature(signature)?,
-    ))
+    Ok(Message::ProposedSigned(read_proposed(sheet)?, read_signature(signature)?))
 }
