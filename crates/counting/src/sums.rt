@@ -33,7 +33,8 @@ fn amount_of<F: Fn(&[u8; 32]) -> bool>(list: &[Payment], counts: F) -> u64
     sum
 }
 
-// What the sheets come to together.
+// What the sheets come to together. That they are at most 16 is asked for in each function here: a type of their own would
+// be made for this file alone.
 fn sum_of<F: Fn(&Sheet) -> u64>(sheets: &[Sheet], each: F) -> u64
     requires few { length sheets.now ≤ 16 }
     requires callable { F.IsAlwaysCallable each }

@@ -35,6 +35,7 @@ fn judged(
     plan: &mut Plan,
     line: &[u8],
 ) -> Result<Result<(), Refusal>, Fault> {
+    // a refusal is an answer, which `?` would not tell from a fault
     let request = match read_request(heap, line).map_err(|_| Fault::Memory)? {
         Ok(request) => request,
         Err(refusal) => return Ok(Err(refusal)),

@@ -16,7 +16,8 @@ fn push_head(out: &mut Vec<u8>, word: &[u8], account: usize) -> Result<(), Alloc
     Ok(())
 }
 
-// The message with a sheet, or the sheet alone where there is no first byte.
+// The message with a sheet, or the sheet alone where there is no first byte. `out` grows from `heap`, and the message is made
+// apart: both are given, here and below.
 fn push_sheet_hex(
     out: &mut Vec<u8>,
     heap: Global,

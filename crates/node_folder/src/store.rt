@@ -39,7 +39,7 @@ impl Store {
         Ok(())
     }
 
-    // Length and contents outlast a stop: what an earlier program wrote too.
+    // Length and contents outlast a stop: what an earlier program wrote too. This and `sync` differ in the library's call.
     pub(crate) fn sync_all(&mut self) -> anyhow::Result<()> {
         self.write_pending()?;
         self.file.sync_all()?;

@@ -17,7 +17,8 @@ const RED_CENTRED: &str = "fill=\"#b00020\" text-anchor=\"middle\"";
 
 const GROUND: &str = "fill=\"#ffffff\"";
 
-// The ground, the title, and what the signs mean.
+// The ground, the title, and what the signs mean. Here and below the canvas is written and the layout read: a struct of both
+// would be taken apart in each function.
 fn put_head(canvas: &mut Canvas, picture: &Picture, layout: &Layout) -> Result<(), AllocError> {
     canvas.open(layout.width, layout.height)?;
     canvas.put("<title>")?;
@@ -214,6 +215,7 @@ fn put_row(canvas: &mut Canvas, layout: &Layout, at: usize, row: &Row) -> Result
     }
 }
 
+// As put_lanes goes over lanes: by a closure for the one the two would be no shorter.
 fn put_rows(canvas: &mut Canvas, layout: &Layout, rows: &[Row]) -> Result<(), AllocError> {
     for (at, row) in rows.iter().enumerate() {
         put_row(canvas, layout, at, row)?;

@@ -3,7 +3,7 @@ use crate::cast::line_at;
 use script::{Fault, Wrong, word_at};
 use std::alloc::{AllocError, Global};
 
-// What is said after the word.
+// What is said after the word: this program's own words, a table of them (a Display in the crate script would be the same table).
 fn after_word(wrong: Wrong) -> &'static str {
     match wrong {
         Wrong::CannotStand => " is not a word that can stand here",

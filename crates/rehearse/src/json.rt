@@ -1,4 +1,6 @@
 // What happens, one JSON object a line. Names and lines of a script have no byte that JSON would have to escape.
+// Each function is given where it writes, whose names it takes, and what it tells of: a struct of the first two would be
+// taken apart in each.
 use crate::cast::Cast;
 use crate::names::Said;
 use register::Phase;

@@ -93,6 +93,7 @@ fn asked(rt: &HostRuntime) -> anyhow::Result<Task> {
     }
 }
 
+// As objects or as lines: which of the two is asked for each event, since a closure for it would be chosen by the same flag.
 fn told(cast: &Cast, events: &[Event], as_json: bool) -> Result<String, AllocError> {
     let mut out = String::new(cast.heap);
     for event in events {

@@ -31,6 +31,7 @@ fn plain(mark: Mark, text: String) -> Option<Sketch> {
     })
 }
 
+// A picture's words for a refusal, whose crate has a number for it and no words.
 fn why(refusal: Refusal) -> &'static str {
     match refusal {
         Refusal::Unreadable => ": it can't be read (1)",

@@ -50,6 +50,7 @@ const CHANGES: [Change; 6] = [
     Change::GivingUp,
 ];
 
+// This program's words for the changes, which are of another crate, so that no Display can stand here.
 fn name_of(change: Change) -> &'static [u8] {
     match change {
         Change::Offered => b"offered",
@@ -106,6 +107,7 @@ fn push_line(out: &mut Vec<u8>, heap: Global, text: &[u8], sheet: &Sheet) -> Res
     Ok(())
 }
 
+// The parameters of this and the answers below are those of the closure that line_answers calls.
 fn read_answer(out: &mut Vec<u8>, heap: Global, line: &[u8]) -> Result<(), Fault> {
     let bytes = bytes_of(heap, word_of(line)?.text)?;
     let read = read_sheet(bytes.as_slice())?;

@@ -72,7 +72,8 @@ impl World {
         }
     }
 
-    // Another proposes a sheet with a change to what a node holds.
+    // Another proposes a sheet with a change to what a node holds. The two parties come of the command, which goes along to be
+    // told of: a struct of the three would be the command again.
     pub(crate) fn propose(
         &mut self,
         from: usize,
