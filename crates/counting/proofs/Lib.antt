@@ -6,3 +6,4 @@ pub mod Follow
 pub mod Runs
 pub mod Steps
 pub mod Firsts
+mod Searched

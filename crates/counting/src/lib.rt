@@ -26,13 +26,9 @@ pub use types::{Count, Disorder};
 fn disorder(node: &Node) -> Option<usize>
     ensures { Searched (state_of node.now) result }
 {
-    // a loop: of a position in the accounts, the search did not prove which account it names
-    for i in 0..node.many() {
-        if !orders::is_orderly(&node.account(i)) {
-            return Some(i);
-        }
-    }
-    None
+    node.accounts()
+        .iter()
+        .position(|account| !orders::is_orderly(account))
 }
 
 // The lesser sheet of each account; what stands past their number is of no matter.
