@@ -1,4 +1,4 @@
-// The six changes: what the next sheet is, or the refusal. Leans on refusal and sheet.
+// The six changes: what the next sheet is, or the refusal; and the money of a sheet. Leans on refusal and sheet.
 // Promises: each answer is the one that specs/Changes.antt defines; that is the sheet that follows by the rules
 // (specs/Follows.antt), its total is the same, and a refusal is the lowest that applies (specs/Reasons.antt).
 #![tactic(auto)]

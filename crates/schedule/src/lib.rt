@@ -1,4 +1,4 @@
-// The agreed numbers of a rehearsal, and when its nodes look.
+// The four numbers that accounts go by, whether they keep the rules, and when nodes look.
 // Promises: numbers are made just where the rules allow them, else the first that is too small is told; a look is due, or
 // missed, as specs/Schedule.antt says; and whoever looks whenever it is due never misses one. Leans on nothing.
 #![tactic(auto)]

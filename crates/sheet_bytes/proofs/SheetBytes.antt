@@ -1,7 +1,5 @@
 -- The parts of a sheet's bytes, one after another, and the bytes from a place on.
-use Rattle.std.proofs.Common.{◌≡◌, ℕ, ◌-◌, min, List, ◌++◌, length, take, drop, vec_items, Vec, sym, ap, ◌∙◌, ⊎_elim, arith}
-use Rattle.std.proofs.lemmas.List.{drop_all, take_rest}
-use Rattle.std.proofs.lemmas.Bool.{cases_lt}
+use Rattle.std.proofs.Common.{◌≡◌, ℕ, List, ◌++◌, vec_items, Vec, ap, ◌∙◌}
 use Rattle.std.specs.declared.alloc.Global.{Global}
 use Rattle.sheet.specs.declared.types.Payment.{Payment}
 use Rattle.sheet.specs.Contents.{Content}
@@ -13,8 +11,3 @@ pub put_sheet : {a b c d : Vec ℕ Global} (s : Content) (xs ys : List Payment) 
 unfolding sheet_bytes
 put_sheet {a} s xs ys k m n e f p q r =
     (put_then _ _ _ _ (put_then _ _ _ _ p q) r).items ∙ ap (λ zs. vec_items a ++ zs) (ap (λ zs. head_bytes s ++ list_bytes zs ++ list_bytes ys) e ∙ ap (λ zs. head_bytes s ++ list_bytes s.ins ++ list_bytes zs) f)
-
--- the bytes from a place on, as the code takes them
-pub rest_from : (bs : List ℕ) (at k : ℕ) → k ≡ min at (length bs) → take (length bs - k) (drop k bs) ≡ drop at bs
-rest_from bs at k e =
-    take_rest bs k ∙ ⊎_elim (λ h. ap (λ n. drop n bs) (let same : k ≡ at = omega arith in same)) (λ h. drop_all k bs (omega arith) ∙ sym (drop_all at bs h)) (cases_lt at (length bs))

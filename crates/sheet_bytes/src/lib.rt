@@ -11,7 +11,7 @@ mod numbers;
 mod payments;
 mod sheets;
 
-pub use numbers::{push_number, read_number, rest_from};
+pub use numbers::{push_number, read_number};
 pub use payments::{push_payment, read_payment};
 pub use sheets::{SheetRead, push_sheet, read_sheet, read_sheet_at};
 

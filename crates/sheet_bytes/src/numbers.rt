@@ -32,7 +32,7 @@ pub fn push_number(out: &mut Vec<u8>, n: u32) -> Result<(), AllocError>
 }
 
 // The bytes from a place on: none where the place is past the end.
-pub fn rest_from(bytes: &[u8], at: usize) -> &[u8]
+pub(crate) fn rest_from(bytes: &[u8], at: usize) -> &[u8]
     ensures value { result.now ≡ drop at bytes.now }
     ensures len { length result.now ≡ length bytes.now - at }
 {

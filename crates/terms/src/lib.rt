@@ -1,5 +1,5 @@
 // The terms of a node, as its owner writes them.
-// Promises: a text is read as specs/Reading.antt says, or what is wrong with it and where. Leans on lines and schedule.
+// Promises: a text is read as specs/Reading.antt says, or what is wrong with it and where. Leans on lines and schedule, and on the library's arrayvec.
 #![tactic(auto)]
 
 ghost use Rattle.std.specs.Prelude.{◌≡◌};
