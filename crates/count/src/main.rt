@@ -142,7 +142,7 @@ fn started(rt: &HostRuntime, path: &str, bytes: &[u8]) -> anyhow::Result<Option<
     }
 }
 
-// What stands in the file, where it can be read: else that is said here.
+// What stands in the file, where it can be read: else that is said here, since an anyhow::Error would cut a long path.
 fn contents(rt: &HostRuntime, path: &str) -> anyhow::Result<Option<Vec<u8>>> {
     match fs::read(rt, path) {
         Ok(bytes) => Ok(Some(bytes)),

@@ -1,16 +1,16 @@
 // What the node put in, by the first sheets of its file.
 ghost use Rattle.std.specs.Prelude.{◌≡◌, ◌*◌, ◌≤◌};
+ghost use Rattle.std.specs.Option.{unwrap_or};
 ghost use Rattle.node_state.specs.Nodes.{state_of};
 ghost use Rattle.counting.specs.Deposits.{own_first, deposits_of};
 
 use journal::{Record, RecordRead, read_record};
 use node_state::Node;
 
-// Own of the sheet that both have signed at the place of an account's first sheet; 0 where there is anything else.
-fn own_of(bytes: &[u8], i: usize) -> u64
+// Own of the sheet that both have signed at the place of an account's first sheet.
+fn own_of(bytes: &[u8], i: usize) -> Option<u32>
     requires { i ≤ 16 }
-    ensures value { result ≡ own_first bytes.now i }
-    ensures bound { result ≤ 4294967295 }
+    ensures { unwrap_or result 0 ≡ own_first bytes.now i }
 {
     match read_record(bytes, 16 * i) {
         Ok(
@@ -20,8 +20,8 @@ fn own_of(bytes: &[u8], i: usize) -> u64
                     ..
                 },
             ),
-        ) => u64::from(sheet.own),
-        _ => 0,
+        ) => Some(sheet.own),
+        _ => None,
     }
 }
 
@@ -32,7 +32,7 @@ pub(crate) fn deposits(node: &Node, bytes: &[u8]) -> u64
     let mut sum = 0;
     // An account's number is all that says where its first sheet stands: map and sum would count it the same.
     for i in 0..node.many() {
-        sum += own_of(bytes, i);
+        sum += u64::from(own_of(bytes, i).unwrap_or(0));
     }
     sum
 }

@@ -3,16 +3,13 @@
 // Leans on node_state, journal and the crates below them, and on the theorems of moments.
 #![tactic(auto)]
 
-ghost use Rattle.std.specs.Prelude.{◌≡◌, ℕ, ◌*◌, ◌≤◌, List, map, length, take, IfOk};
-ghost use Rattle.sheet.specs.Contents.{content_of};
+ghost use Rattle.std.specs.Prelude.{◌*◌, ◌≤◌, IfOk};
 ghost use Rattle.node_state.specs.Nodes.{state_of};
 ghost use Rattle.counting.specs.Answers.{Counted, Searched, Compared};
 ghost use Rattle.counting.specs.Deposits.{DepositsRead};
-ghost use Rattle.counting.specs.Leasts.{lessers, least_of};
 ghost use Rattle.counting.specs.Theorems.{FoundIsLeast, RunsOrderly, NotBelow, NotNegative};
 
 use node_state::Node;
-use sheet::Sheet;
 
 mod deposits;
 mod orders;
@@ -31,27 +28,6 @@ fn disorder(node: &Node) -> Option<usize>
         .position(|account| !orders::is_orderly(account))
 }
 
-// The lesser sheet of each account; what stands past their number is of no matter.
-fn lesser_sheets(node: &Node) -> [Sheet; 16]
-    ensures value { map content_of (take (length (state_of node.now).accounts) result) ≡ lessers (state_of node.now) }
-    ensures whole { length result ≡ 16 }
-{
-    let mut sheets = [Sheet::first(0, 0, 0); 16];
-    for (i, account) in node.accounts().iter().enumerate() {
-        sheets[i] = orders::lesser_sheet(account);
-    }
-    sheets
-}
-
-// What the lesser sheets come to, with each key shown where that is worse.
-fn found(node: &Node) -> u64
-    ensures value { result ≡ least_of (state_of node.now) }
-    ensures bound { result ≤ 16 * (65 * 4294967295) }
-{
-    let sheets = lesser_sheets(node);
-    sums::total(node, &sheets[0..node.many()])
-}
-
 // The least that the node can come out with.
 pub fn least(node: &Node) -> Result<u64, Disorder>
     ensures value { Counted (state_of node.now) result }
@@ -59,7 +35,7 @@ pub fn least(node: &Node) -> Result<u64, Disorder>
 {
     match disorder(node) {
         Some(account) => Err(Disorder { account }),
-        None => Ok(found(node)),
+        None => Ok(sums::total(node)),
     }
 }
 

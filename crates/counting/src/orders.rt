@@ -57,11 +57,11 @@ pub(crate) fn is_orderly(account: &Account) -> bool
 }
 
 // The sheet that is worth no more than the other.
-pub(crate) fn lesser_sheet(account: &Account) -> Sheet
-    ensures { content_of result ≡ lesser (standing_of account.now) }
+pub(crate) fn lesser_sheet(account: &Account) -> &Sheet
+    ensures { content_of result.now ≡ lesser (standing_of account.now) }
 {
     match account.under_way() {
-        Some(next) if is_below(next, &account.held) => *next,
-        _ => account.held,
+        Some(next) if is_below(next, &account.held) => next,
+        _ => &account.held,
     }
 }

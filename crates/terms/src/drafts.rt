@@ -6,7 +6,6 @@ ghost use Rattle.terms.specs.Reading.{placed_once, said, said_by, line_says, all
 use crate::entries::entry_of;
 use crate::types::{Agreed, Deposits, Draft, Entry, Fault, Placed, Wrong};
 use arrayvec::ArrayVec;
-use lines::part_at;
 use schedule::{Numbers, TooSmall};
 
 // The number of a word, which stands once.
@@ -79,18 +78,10 @@ pub(crate) fn draft_of(text: &[u8]) -> Result<Draft, Fault>
         look: None,
         deposits: ArrayVec::new(),
     };
-    let mut line = 1;
-    let mut rest = text;
-    // Each part hands on what follows it, and a draft is handed on or refused: a fold of parts would be no plainer.
-    loop {
-        let part = part_at(rest, b'\n');
-        draft = with_line(draft, line, part.text)?;
-        let Some(more) = part.rest else {
-            return Ok(draft);
-        };
-        rest = more;
-        line += 1;
+    for (i, line) in text.split(|b| *b == b'\n').enumerate() {
+        draft = with_line(draft, i + 1, line)?;
     }
+    Ok(draft)
 }
 
 // The terms that a whole draft has, where its numbers keep the rules.

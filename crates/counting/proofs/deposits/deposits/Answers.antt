@@ -6,7 +6,7 @@ use Rattle.counting.proofs.deposits.deposits.Goals as goal
 
 pub loop-i-preserved : goal.loop-i-preserved
 loop-i-preserved c =
-    (sum_step (own_first c.args.bytes.now) c.loop-i.i c.loop-i.sum c.own_of-sum.result c.own_of-sum.ensures.value c.loop-i.invariant.0, omega (arith, c.loop-i.invariant.1, c.own_of-sum.ensures.bound))
+    (sum_step (own_first c.args.bytes.now) c.loop-i.i c.loop-i.sum _ (c.from-sum.ensures ∙ c.unwrap_or.ensures ∙ c.own_of.ensures) c.loop-i.invariant.0, omega (arith, c.loop-i.invariant.1, c.from-sum.ensures, c.unwrap_or.type_inv))
 
 pub returns : goal.returns
 returns c =
