@@ -1,6 +1,5 @@
 // The owner's calls.
 ghost use Rattle.std.specs.Prelude.{◌≡◌};
-ghost use Rattle.std.specs.Str.{bytes_eq};
 ghost use Rattle.lines.specs.Lines.{words, number_read};
 ghost use Rattle.rules.specs.declared.types.Call.TheVariants.{Pay, Get};
 ghost use Rattle.any_request.specs.Requests.{plain, pass_call, pass_of, place_read, place_of, place_call, give_of};
@@ -11,15 +10,8 @@ use refusal::Refusal;
 use rules::Call;
 use sheet::Payment;
 
-// A name for ==, since definitions compare texts by bytes_eq.
-pub(crate) fn is_word(word: &[u8], name: &[u8]) -> bool
-    ensures { result ≡ bytes_eq word.now name.now }
-{
-    word == name
-}
-
 // A number, refused as unreadable whatever is wrong with it.
-pub(crate) fn plain_number(word: &[u8]) -> Result<u32, Refusal>
+fn plain_number(word: &[u8]) -> Result<u32, Refusal>
     ensures { result ≡ plain (number_read word.now) }
 {
     number(word).map_err(|_| Refusal::Unreadable)
@@ -92,9 +84,10 @@ pub(crate) fn read_give(line: &[u8]) -> Result<Call, Refusal>
     ensures { result ≡ give_of (words line.now) }
 {
     let up = next_word(line).ok_or(Refusal::Unreadable)?;
-    if !is_word(up.text, b"up") {
-        return Err(Refusal::Unreadable);
+    if up.text == b"up".as_slice() {
+        let Place { account, lock } = read_place(up.rest)?;
+        Ok(Call::GiveUp { account, lock })
+    } else {
+        Err(Refusal::Unreadable)
     }
-    let Place { account, lock } = read_place(up.rest)?;
-    Ok(Call::GiveUp { account, lock })
 }

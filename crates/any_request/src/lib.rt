@@ -4,19 +4,20 @@
 #![tactic(auto)]
 
 ghost use Rattle.std.specs.Prelude.{◌≡◌, IfOk};
-ghost use Rattle.any_request.specs.Looks.{tick_read};
 ghost use Rattle.any_request.specs.Requests.{on_wish, request_of};
 
+use faults::Fault;
 use refusal::Refusal;
 use std::alloc::{AllocError, Global};
 
 mod calls;
+mod faults;
 mod looks;
 mod messages;
 mod types;
 mod words;
 
-pub use looks::Look;
+pub use looks::{Look, read_tick};
 pub use types::Request;
 
 // A line with its newline: what it asks for, or the refusal.
@@ -26,12 +27,9 @@ pub fn read_request<L: Look>(
 ) -> Result<Result<Request<L>, Refusal>, AllocError>
     ensures { IfOk result (λ q. on_wish L.seen q ≡ request_of L.look_of line.now) }
 {
-    words::read_line(heap, line)
-}
-
-// The tick of a look: one above the largest number is refused as such.
-pub fn read_tick(word: &[u8]) -> Result<u32, Refusal>
-    ensures { result ≡ tick_read word.now }
-{
-    looks::tick_of(word)
+    match words::read_line(heap, line) {
+        Ok(request) => Ok(Ok(request)),
+        Err(Fault::Refused(refusal)) => Ok(Err(refusal)),
+        Err(Fault::NoMemory(error)) => Err(error),
+    }
 }

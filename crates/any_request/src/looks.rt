@@ -24,12 +24,12 @@ pub trait Look: Drop {
         ensures { IfOk result (λ q. on_look seen q ≡ look_of (words line.now)) };
 }
 
-pub(crate) fn tick_of(word: &[u8]) -> Result<u32, Refusal>
+// The tick of a look: one above the largest number is refused as such.
+pub fn read_tick(word: &[u8]) -> Result<u32, Refusal>
     ensures { result ≡ tick_read word.now }
 {
-    match number(word) {
-        Ok(tick) => Ok(tick),
-        Err(NumberFault::NotANumber) => Err(Refusal::Unreadable),
-        Err(NumberFault::TooLarge) => Err(Refusal::TooLarge),
-    }
+    number(word).map_err(|fault| match fault {
+        NumberFault::NotANumber => Refusal::Unreadable,
+        NumberFault::TooLarge => Refusal::TooLarge,
+    })
 }

@@ -1,70 +1,61 @@
 // The bytes of a message.
-ghost use Rattle.std.specs.Prelude.{◌≡◌};
-ghost use Rattle.sheet.specs.Contents.{content_of};
+ghost use Rattle.std.specs.Prelude.{◌≡◌, ◌∷◌};
 ghost use Rattle.any_request.specs.Messages.{proposed_read, signature_read, key_read, message_read, pair_read, on_told, sheet_of};
 
 use judgement::Signature;
 use refusal::Refusal;
 use rules::Message;
 use sheet::Sheet;
-use sheet_bytes::{read_number, read_sheet_at};
+use sheet_bytes::read_sheet;
 
+// The first byte of each kind of message.
 const PROPOSED: u8 = 1;
 
 const SIGNED: u8 = 2;
 
 const KEY: u8 = 3;
 
-// A sheet proposed as next.
-fn read_proposed(bytes: &[u8]) -> Result<Sheet, Refusal>
-    ensures { sheet_of result ≡ proposed_read bytes.now }
+// A sheet proposed as next, past its first byte.
+fn read_proposed(rest: &[u8]) -> Result<Sheet, Refusal>
+    ensures { sheet_of result ≡ proposed_read (1 ∷ rest.now) }
 {
-    if bytes.is_empty() || bytes[0] != PROPOSED {
-        return Err(Refusal::Unreadable);
-    }
-    let got = read_sheet_at(bytes, 1).map_err(|_| Refusal::Unreadable)?;
-    if got.used != bytes.len() - 1 {
+    let got = read_sheet(rest)?;
+    if got.used != rest.len() {
         return Err(Refusal::Unreadable);
     }
     Ok(got.sheet)
 }
 
-// The sender's signature.
-fn read_signature(bytes: &[u8]) -> Result<Signature, Refusal>
-    ensures { result ≡ signature_read bytes.now }
+// The sender's signature, past its first byte.
+fn read_signature(rest: &[u8]) -> Result<Signature, Refusal>
+    ensures { result ≡ signature_read (2 ∷ rest.now) }
 {
-    if bytes.len() != 6 || bytes[0] != SIGNED {
+    let [account, a, b, c, d] = *rest else {
         return Err(Refusal::Unreadable);
-    }
-    let number = read_number(bytes, 2).ok_or(Refusal::Unreadable)?;
-    Ok(Signature {
-        account: bytes[1],
-        number,
-    })
+    };
+    let number = u32::from_be_bytes([a, b, c, d]);
+    Ok(Signature { account, number })
 }
 
-fn read_key(bytes: &[u8]) -> Result<[u8; 32], Refusal>
-    ensures { result ≡ key_read bytes.now }
+// A key, past its first byte.
+fn read_key(rest: &[u8]) -> Result<[u8; 32], Refusal>
+    ensures { result ≡ key_read (3 ∷ rest.now) }
 {
-    if bytes.len() != 33 || bytes[0] != KEY {
-        return Err(Refusal::Unreadable);
+    match rest.first_chunk() {
+        Some(key) if rest.len() == 32 => Ok(*key),
+        _ => Err(Refusal::Unreadable),
     }
-    let mut key = [0; 32];
-    key.copy_from_slice(&bytes[1..33]);
-    Ok(key)
 }
 
 // One message.
 pub(crate) fn read_message(bytes: &[u8]) -> Result<Message, Refusal>
     ensures { on_told result ≡ message_read bytes.now }
 {
-    if bytes.is_empty() {
-        return Err(Refusal::Unreadable);
-    }
-    match bytes[0] {
-        PROPOSED => Ok(Message::Proposed(read_proposed(bytes)?)),
-        SIGNED => Ok(Message::Signed(read_signature(bytes)?)),
-        _ => Ok(Message::Key(read_key(bytes)?)),
+    match bytes {
+        [PROPOSED, sheet @ ..] => Ok(Message::Proposed(read_proposed(sheet)?)),
+        [SIGNED, signature @ ..] => Ok(Message::Signed(read_signature(signature)?)),
+        [KEY, key @ ..] => Ok(Message::Key(read_key(key)?)),
+        _ => Err(Refusal::Unreadable),
     }
 }
 
@@ -72,5 +63,10 @@ pub(crate) fn read_message(bytes: &[u8]) -> Result<Message, Refusal>
 pub(crate) fn read_pair(sheet: &[u8], signature: &[u8]) -> Result<Message, Refusal>
     ensures { on_told result ≡ pair_read sheet.now signature.now }
 {
-    Ok(Message::ProposedSigned(read_proposed(sheet)?, read_signature(signature)?))
+    match (sheet, signature) {
+        ([PROPOSED, sheet @ ..], [SIGNED, signature @ ..]) => {
+            Ok(Message::ProposedSigned(read_proposed(sheet)?, read_signature(signature)?))
+        }
+        _ => Err(Refusal::Unreadable),
+    }
 }

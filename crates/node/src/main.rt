@@ -36,7 +36,7 @@ fn judged(
     line: &[u8],
 ) -> Result<Result<(), Refusal>, Fault> {
     // a refusal is an answer, which `?` would not tell from a fault
-    let request = match read_request(heap, line).map_err(|_| Fault::Memory)? {
+    let request = match read_request(heap, line)? {
         Ok(request) => request,
         Err(refusal) => return Ok(Err(refusal)),
     };

@@ -5,6 +5,11 @@ use sheet::Sheet;
 use sheet_bytes::push_sheet;
 use std::alloc::{AllocError, Global};
 
+// The first bytes of messages: a sheet that is proposed, and a signature.
+const PROPOSED: u8 = 1;
+
+const SIGNED: u8 = 2;
+
 // `send I` and the like.
 fn push_head(out: &mut Vec<u8>, word: &[u8], account: usize) -> Result<(), AllocError> {
     out.extend_from_slice(word)?;
@@ -32,7 +37,7 @@ fn push_sheet_hex(
 // The message with the node's own signature, in its own number for the account.
 fn push_signature_hex(out: &mut Vec<u8>, account: usize, number: u32) -> Result<(), AllocError> {
     let [a, b, c, d] = number.to_be_bytes();
-    push_hex(out, &[2, (account & 0xff) as u8, a, b, c, d])
+    push_hex(out, &[SIGNED, (account & 0xff) as u8, a, b, c, d])
 }
 
 // A sheet of the node's own and its signature under it, as one line.
@@ -43,7 +48,7 @@ pub(crate) fn push_send(
     sheet: &Sheet,
 ) -> Result<(), AllocError> {
     push_head(out, b"send", account)?;
-    push_sheet_hex(out, heap, &[1], sheet)?;
+    push_sheet_hex(out, heap, &[PROPOSED], sheet)?;
     out.push(b' ')?;
     push_signature_hex(out, account, sheet.number)?;
     out.push(b'\n')?;

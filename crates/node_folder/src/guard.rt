@@ -12,10 +12,7 @@ pub(crate) struct Guard {
 
 // What follows the last closing bracket: a process may have any name.
 fn after_name(text: &[u8]) -> &[u8] {
-    match text.rsplit(|b| *b == b')').next() {
-        Some(rest) => rest,
-        None => text,
-    }
+    text.rsplit(|b| *b == b')').next().unwrap_or(text)
 }
 
 // When a process began, as the system counts it: the 22nd field of its status line, which is the 20th word after its name.
@@ -44,10 +41,7 @@ fn still_runs(rt: &HostRuntime, text: &str) -> anyhow::Result<bool> {
     let Some((pid, when)) = text.split_once(' ') else {
         return Ok(false);
     };
-    match began(rt, pid)? {
-        Some(now) => Ok(now.as_slice() == when.as_bytes()),
-        None => Ok(false),
-    }
+    Ok(began(rt, pid)?.is_some_and(|now| now.as_slice() == when.as_bytes()))
 }
 
 impl Guard {

@@ -23,7 +23,7 @@ pub struct Judged {
     pub said: Option<String>,
 }
 
-// What stops the program.
+// What stops the program, in words: Fault is another crate's type, so that no Display can stand here.
 fn in_words(fault: Fault) -> anyhow::Error {
     match fault {
         Fault::Memory => anyhow!("out of memory"),
@@ -64,7 +64,8 @@ impl OpenNode {
         let heap = rt.alloc();
         let mut input = BufReader::new(heap, rt.stdin())?;
         let mut line = Vec::new(heap);
-        // A line is told from one that is cut short by its newline, which `split` would drop.
+        // A line is told from one that is cut short by its newline, which `split` would drop. A loop that waits on input has to
+        // be counted, since each function ends.
         for _ in 0..u64::MAX {
             line.clear();
             if input.read_until(b'\n', &mut line)? == 0 {

@@ -2,7 +2,7 @@
 use crate::acts::push_send;
 use crate::store::Store;
 use anyhow::anyhow;
-use journal::{Record, read_record};
+use journal::{Record, RecordRead, read_record};
 use node_state::Node;
 use replay::{StartFault, replay};
 use sheet::Sheet;
@@ -38,16 +38,17 @@ const FIRST_BYTES: usize = 16;
 
 // Is the first sheet of account i the one that the terms say.
 fn is_agreed(bytes: &[u8], i: usize, deposits: &Deposits) -> bool {
-    let Ok(found) = read_record(bytes, i.saturating_mul(FIRST_BYTES)) else {
-        return false;
-    };
-    let Some(got) = found else {
-        return false;
-    };
-    let Record::Both(sheet) = got.record else {
-        return false;
-    };
-    sheet.own == deposits.own && sheet.theirs == deposits.theirs
+    match read_record(bytes, i.saturating_mul(FIRST_BYTES)) {
+        Ok(
+            Some(
+                RecordRead {
+                    record: Record::Both(sheet),
+                    ..
+                },
+            ),
+        ) => sheet.own == deposits.own && sheet.theirs == deposits.theirs,
+        _ => false,
+    }
 }
 
 // Are the first sheets of the file those of the terms, or a first part of them with nothing after.

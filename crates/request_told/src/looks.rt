@@ -74,16 +74,14 @@ fn read_shown(heap: Global, line: &[u8]) -> Result<Option<Vec<Shown>>, AllocErro
 fn read_look(heap: Global, line: &[u8]) -> Result<Result<TickShown, Refusal>, AllocError>
     ensures { IfOk result (λ l. on_look look_seen l ≡ tick_of (words line.now)) }
 {
+    // A refusal is an answer here, beside which only a lack of memory is left to `?`: hence let .. else.
     let Some(word) = next_word(line) else {
         return Ok(Err(Refusal::Unreadable));
     };
     let Some(shown) = read_shown(heap, word.rest)? else {
         return Ok(Err(Refusal::Unreadable));
     };
-    match read_tick(word.text) {
-        Ok(tick) => Ok(Ok(TickShown { tick, shown })),
-        Err(refusal) => Ok(Err(refusal)),
-    }
+    Ok(read_tick(word.text).map(|tick| TickShown { tick, shown }))
 }
 
 impl Look for TickShown {
