@@ -19,20 +19,12 @@ fn push_byte(out: &mut Vec<u8>, b: u8) -> Result<(), AllocError>
     Ok(())
 }
 
-// Appends a text, each byte by what stands for it.
-fn push_bytes(out: &mut Vec<u8>, text: &[u8]) -> Result<(), AllocError>
+// Appends a text as it stands in an XML document, each byte by what stands for it.
+pub fn push_escaped(out: &mut Vec<u8>, text: &[u8]) -> Result<(), AllocError>
     ensures { OnOk result (out.new.items ≡ out.old.items ++ escaped text.now) }
 {
     for b in text {
         push_byte(out, *b)?;
     }
-    Ok(())
-}
-
-// Appends a text as it stands in an XML document.
-pub fn push_escaped(out: &mut Vec<u8>, text: &[u8]) -> Result<(), AllocError>
-    ensures { OnOk result (out.new.items ≡ out.old.items ++ escaped text.now) }
-{
-    push_bytes(out, text)?;
     Ok(())
 }

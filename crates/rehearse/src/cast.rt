@@ -1,7 +1,7 @@
 // What a script calls things.
 use crate::names::{Name, Pair, Side};
 use lines::part_at;
-use script::{Command, Script};
+use script::{Command, Deed, Script, Showing, Wish};
 use small_keys::lock_of;
 use std::alloc::{AllocError, Global};
 use std::str;
@@ -25,8 +25,9 @@ pub(crate) struct Cast {
 // The key that a command names.
 fn key_in(command: &Command) -> Option<u32> {
     match *command {
-        Command::Offers { promised, .. } | Command::Passes { promised, .. } => Some(promised.key),
-        Command::KeyTo { key, .. } | Command::ShowsKey { key, .. } => Some(key),
+        Command::Deed(Deed::Offers { promised, .. })
+        | Command::Wish(Wish::Passes { promised, .. }) => { Some(promised.key) }
+        Command::Showing(Showing::KeyTo { key, .. } | Showing::ShowsKey { key, .. }) => Some(key),
         _ => None,
     }
 }
@@ -46,7 +47,10 @@ fn locks_of(heap: Global, script: &Script) -> Result<Vec<NamedLock>, AllocError>
 }
 
 // A line of a text, counted from 1, without its comment.
-pub(crate) fn line_at(text: &[u8], line: u32) -> &[u8] {
+pub(crate) fn line_at(text: &[u8], line: Option<u32>) -> &[u8] {
+    let Some(line) = line else {
+        return &[];
+    };
     let before = line.saturating_sub(1) as usize;
     match text.split(|b| *b == b'\n').nth(before) {
         Some(found) => part_at(found, b'#').text,
@@ -123,7 +127,7 @@ impl Cast {
     }
 
     // The words of a line of the script, with one space between them. All words of a line that is played are ASCII.
-    pub(crate) fn push_line(&self, out: &mut String, line: u32) -> Result<(), AllocError> {
+    pub(crate) fn push_line(&self, out: &mut String, line: Option<u32>) -> Result<(), AllocError> {
         let words = line_at(self.text.as_slice(), line)
             .split(|b| *b == b' ')
             .filter(|word| !word.is_empty());

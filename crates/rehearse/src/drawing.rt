@@ -3,17 +3,19 @@ use crate::cast::Cast;
 use crate::lanes::Lanes;
 use crate::sketch::Artist;
 use picture::{Lane, Picture, Row, Total, draw};
-use stage::{Event, Happening};
+use stage::{Event, Happening, Outcome};
 use std::alloc::AllocError;
 
 // What a party put in and came out with, where it is a node.
 fn total_of(events: &[Event], party: usize) -> Option<Total> {
     events.iter().find_map(|event| match event.what {
-        Happening::Total {
-            node,
-            put_in,
-            came_out,
-        } if node == party => Some(Total { put_in, came_out }),
+        Happening::Outcome(
+            Outcome::Total {
+                node,
+                put_in,
+                came_out,
+            },
+        ) if node == party => Some(Total { put_in, came_out }),
         _ => None,
     })
 }

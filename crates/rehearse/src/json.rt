@@ -5,7 +5,7 @@ use crate::cast::Cast;
 use crate::names::Said;
 use register::Phase;
 use sheet::{Payment, Sheet};
-use stage::{Ending, Event, Happening, Letter};
+use stage::{Ending, Event, Happening, InRegister, Letter, OfNode, Outcome, Standing};
 use std::alloc::AllocError;
 
 // The payments of one kind, as a list.
@@ -116,27 +116,27 @@ fn push_ending(out: &mut String, ending: Ending) -> Result<(), AllocError> {
 }
 
 // What happens in the register.
-fn push_in_register(out: &mut String, cast: &Cast, what: &Happening) -> Result<(), AllocError> {
+fn push_in_register(out: &mut String, cast: &Cast, what: &InRegister) -> Result<(), AllocError> {
     match *what {
-        Happening::Opened {
+        InRegister::Opened {
             account,
             number,
             until,
         } => push_dispute(out, cast, "opened", account, number, until),
-        Happening::Replaced {
+        InRegister::Replaced {
             account,
             number,
             until,
         } => push_dispute(out, cast, "replaced", account, number, until),
-        Happening::TurnedAway { account, number } => {
+        InRegister::TurnedAway { account, number } => {
             let pair = cast.pair(account);
             write!(out, r#""turned away","account":"{pair}","number":{number}"#)
         }
-        Happening::Ended { account, number } => {
+        InRegister::Ended { account, number } => {
             let pair = cast.pair(account);
             write!(out, r#""ended","account":"{pair}","number":{number}"#)
         }
-        Happening::KeyCame { account, key } => {
+        InRegister::KeyCame { account, key } => {
             let pair = cast.pair(account);
             let key = cast.key(&key);
             write!(
@@ -144,8 +144,8 @@ fn push_in_register(out: &mut String, cast: &Cast, what: &Happening) -> Result<(
                 r#""key in the register","account":"{pair}","key":"{key}""#
             )
         }
-        Happening::Page { account, phase } => push_page(out, cast, account, &phase),
-        Happening::PageKey { account, key, tick } => {
+        InRegister::Page { account, phase } => push_page(out, cast, account, &phase),
+        InRegister::PageKey { account, key, tick } => {
             let pair = cast.pair(account);
             let key = cast.key(&key);
             write!(
@@ -153,14 +153,13 @@ fn push_in_register(out: &mut String, cast: &Cast, what: &Happening) -> Result<(
                 r#""key since","account":"{pair}","key":"{key}","since":{tick}"#
             )
         }
-        _ => Ok(()),
     }
 }
 
 // What a node does.
-fn push_of_node(out: &mut String, cast: &Cast, what: &Happening) -> Result<(), AllocError> {
+fn push_of_node(out: &mut String, cast: &Cast, what: &OfNode) -> Result<(), AllocError> {
     match *what {
-        Happening::SheetShown {
+        OfNode::SheetShown {
             by,
             account,
             number,
@@ -172,7 +171,7 @@ fn push_of_node(out: &mut String, cast: &Cast, what: &Happening) -> Result<(), A
                 r#""shows sheet","node":"{node}","account":"{pair}","number":{number}"#
             )
         }
-        Happening::KeyShown { by, account, key } => {
+        OfNode::KeyShown { by, account, key } => {
             let node = cast.party(by);
             let pair = cast.pair(account);
             let key = cast.key(&key);
@@ -181,31 +180,30 @@ fn push_of_node(out: &mut String, cast: &Cast, what: &Happening) -> Result<(), A
                 r#""shows key","node":"{node}","account":"{pair}","key":"{key}""#
             )
         }
-        Happening::Learned { node, key } => {
+        OfNode::Learned { node, key } => {
             let node = cast.party(node);
             let key = cast.key(&key);
             write!(out, r#""learns key","node":"{node}","key":"{key}""#)
         }
-        Happening::Missed { node, last } => {
+        OfNode::Missed { node, last } => {
             let node = cast.party(node);
             write!(out, r#""look missed","node":"{node}","last":{last}"#)
         }
-        Happening::Stopped { node } => {
+        OfNode::Stopped { node } => {
             let node = cast.party(node);
             write!(out, r#""stopped","node":"{node}""#)
         }
-        Happening::Started { node } => {
+        OfNode::Started { node } => {
             let node = cast.party(node);
             write!(out, r#""started","node":"{node}""#)
         }
-        _ => push_in_register(out, cast, what),
     }
 }
 
-// What is there at `show`, and what each node comes out with.
-fn push_standing(out: &mut String, cast: &Cast, what: &Happening) -> Result<(), AllocError> {
+// What is there at `show`.
+fn push_standing(out: &mut String, cast: &Cast, what: &Standing) -> Result<(), AllocError> {
     match *what {
-        Happening::Held {
+        Standing::Held {
             node,
             account,
             sheet,
@@ -215,7 +213,7 @@ fn push_standing(out: &mut String, cast: &Cast, what: &Happening) -> Result<(), 
             push_sheet(out, cast, node, account, &sheet)?;
             write!(out, r#","frozen":{frozen}"#)
         }
-        Happening::Next {
+        Standing::Next {
             node,
             account,
             sheet,
@@ -223,7 +221,13 @@ fn push_standing(out: &mut String, cast: &Cast, what: &Happening) -> Result<(), 
             out.push_str(r#""next""#)?;
             push_sheet(out, cast, node, account, &sheet)
         }
-        Happening::Result {
+    }
+}
+
+// What each node comes out with.
+fn push_outcome(out: &mut String, cast: &Cast, what: &Outcome) -> Result<(), AllocError> {
+    match *what {
+        Outcome::Result {
             node,
             account,
             put_in,
@@ -237,7 +241,7 @@ fn push_standing(out: &mut String, cast: &Cast, what: &Happening) -> Result<(), 
             )?;
             push_ending(out, ending)
         }
-        Happening::Total {
+        Outcome::Total {
             node,
             put_in,
             came_out,
@@ -249,7 +253,6 @@ fn push_standing(out: &mut String, cast: &Cast, what: &Happening) -> Result<(), 
                 None => out.push_str(r#","settled":"no""#),
             }
         }
-        _ => push_of_node(out, cast, what),
     }
 }
 
@@ -281,13 +284,17 @@ fn push_what(out: &mut String, cast: &Cast, event: &Event) -> Result<(), AllocEr
             let answer = Said(answer);
             write!(out, r#""looked","node":"{node}","answer":"{answer}""#)
         }
-        _ => push_standing(out, cast, &event.what),
+        Happening::Node(what) => push_of_node(out, cast, &what),
+        Happening::Register(what) => push_in_register(out, cast, &what),
+        Happening::Standing(what) => push_standing(out, cast, &what),
+        Happening::Outcome(what) => push_outcome(out, cast, &what),
     }
 }
 
-// The object of an event: its tick, the line of the script, what it is, and its fields.
+// The object of an event: its tick, the line of the script (0 before the first), what it is, and its fields.
 pub(crate) fn push_json(out: &mut String, cast: &Cast, event: &Event) -> Result<(), AllocError> {
-    let Event { tick, line, .. } = *event;
+    let tick = event.tick;
+    let line = event.line.unwrap_or(0);
     write!(out, r#"{{"tick":{tick},"line":{line},"what":"#)?;
     push_what(out, cast, event)?;
     out.push_str("}\n")

@@ -60,6 +60,7 @@ enum Task {
     Usage,
 }
 
+// `while let Some(word) = words.next()` would take the file where --picture stands, but such a loop has no measure.
 fn asked(rt: &HostRuntime) -> anyhow::Result<Task> {
     let mut words = env::args(rt)?;
     let _program = words.next();

@@ -3,8 +3,8 @@ use crate::cast::Cast;
 use crate::lanes::Lanes;
 use picture::Mark;
 use refusal::Refusal;
-use script::{Command, Promised};
-use stage::{Answer, Event, Happening, Letter};
+use script::{Command, Deed, Promised, Showing, Turn, Wish};
+use stage::{Answer, Event, Happening, InRegister, Letter, OfNode};
 use std::alloc::{AllocError, Global};
 
 // What the row of an event has.
@@ -23,12 +23,12 @@ pub(crate) struct Artist<'a> {
     pub(crate) lanes: Lanes,
 }
 
-fn plain(mark: Mark, text: String) -> Option<Sketch> {
-    Some(Sketch {
+fn plain(mark: Mark, text: String) -> Sketch {
+    Sketch {
         mark,
         refused: false,
         text,
-    })
+    }
 }
 
 // A picture's words for a refusal, whose crate has a number for it and no words.
@@ -49,7 +49,7 @@ fn why(refusal: Refusal) -> &'static str {
 }
 
 // A mark and its text with the answer to what it draws.
-fn answered(mark: Mark, mut text: String, answer: Answer) -> Result<Option<Sketch>, AllocError> {
+fn answered(mark: Mark, mut text: String, answer: Answer) -> Result<Sketch, AllocError> {
     let (words, refused) = match answer {
         Answer::Taken => ("", false),
         Answer::Refused(refusal) => (why(refusal), true),
@@ -57,11 +57,11 @@ fn answered(mark: Mark, mut text: String, answer: Answer) -> Result<Option<Sketc
         Answer::NoSheet => (": there is no such sheet", false),
     };
     text.push_str(words)?;
-    Ok(Some(Sketch {
+    Ok(Sketch {
         mark,
         refused,
         text,
-    }))
+    })
 }
 
 // What is said after a proposal.
@@ -81,7 +81,7 @@ fn bar_of(events: &[Event], account: usize) -> usize {
     events
         .iter()
         .filter_map(|event| match event.what {
-            Happening::Opened { account, .. } => Some(account),
+            Happening::Register(InRegister::Opened { account, .. }) => Some(account),
             _ => None,
         })
         .take_while(|opened| *opened != account)
@@ -90,10 +90,10 @@ fn bar_of(events: &[Event], account: usize) -> usize {
 
 impl Artist<'_> {
     // What another says to a node.
-    fn told(&self, command: &Command) -> Result<Option<(Mark, String)>, AllocError> {
+    fn told(&self, deed: &Deed) -> Result<(Mark, String), AllocError> {
         let heap = self.cast.heap;
-        match *command {
-            Command::Offers {
+        match *deed {
+            Deed::Offers {
                 from,
                 to,
                 promised,
@@ -102,9 +102,9 @@ impl Artist<'_> {
                 let Promised { key, amount, end } = promised;
                 let unsigned = unsigned(signed);
                 let text = format!(in heap; "offers {amount}, key {key}, end {end}{unsigned}")?;
-                Ok(Some((self.lanes.arrow(from, to), text)))
+                Ok((self.lanes.arrow(from, to), text))
             }
-            Command::Returns {
+            Deed::Returns {
                 from,
                 to,
                 key,
@@ -112,9 +112,9 @@ impl Artist<'_> {
             } => {
                 let unsigned = unsigned(signed);
                 let text = format!(in heap; "returns key {key}{unsigned}")?;
-                Ok(Some((self.lanes.arrow(from, to), text)))
+                Ok((self.lanes.arrow(from, to), text))
             }
-            Command::Settles {
+            Deed::Settles {
                 from,
                 to,
                 key,
@@ -122,25 +122,24 @@ impl Artist<'_> {
             } => {
                 let unsigned = unsigned(signed);
                 let text = format!(in heap; "pays key {key}{unsigned}")?;
-                Ok(Some((self.lanes.arrow(from, to), text)))
+                Ok((self.lanes.arrow(from, to), text))
             }
-            Command::Signs { from, to } => {
+            Deed::Signs { from, to } => {
                 let text = String::from_str(heap, "signs")?;
-                Ok(Some((self.lanes.arrow(from, to), text)))
+                Ok((self.lanes.arrow(from, to), text))
             }
-            Command::Sends { from, to } => {
+            Deed::Sends { from, to } => {
                 let text = String::from_str(heap, "sends bytes")?;
-                Ok(Some((self.lanes.arrow(from, to), text)))
+                Ok((self.lanes.arrow(from, to), text))
             }
-            _ => self.asked(command),
         }
     }
 
     // What the owner of a node asks it for.
-    fn asked(&self, command: &Command) -> Result<Option<(Mark, String)>, AllocError> {
+    fn asked(&self, wish: &Wish) -> Result<(Mark, String), AllocError> {
         let heap = self.cast.heap;
-        match *command {
-            Command::Passes {
+        match *wish {
+            Wish::Passes {
                 node,
                 to,
                 promised,
@@ -151,57 +150,68 @@ impl Artist<'_> {
                 let text = format!(in heap;
                     "owner: pass on {amount}, key {key}, end {end}, to {to}"
                 )?;
-                Ok(Some((self.lanes.note(node), text)))
+                Ok((self.lanes.note(node), text))
             }
-            Command::Pays { node, to, key } => {
+            Wish::Pays { node, to, key } => {
                 let to = self.cast.party(to);
                 let text = format!(in heap; "owner: pay key {key} to {to}")?;
-                Ok(Some((self.lanes.note(node), text)))
+                Ok((self.lanes.note(node), text))
             }
-            Command::Gets { node, from, key } => {
+            Wish::Gets { node, from, key } => {
                 let from = self.cast.party(from);
                 let text = format!(in heap; "owner: get key {key} from {from}")?;
-                Ok(Some((self.lanes.note(node), text)))
+                Ok((self.lanes.note(node), text))
             }
-            Command::GivesUp { node, from, key } => {
+            Wish::GivesUp { node, from, key } => {
                 let from = self.cast.party(from);
                 let text = format!(in heap; "owner: give up key {key} of {from}")?;
-                Ok(Some((self.lanes.note(node), text)))
+                Ok((self.lanes.note(node), text))
             }
-            _ => self.shown(command),
         }
     }
 
-    // What another shows in the register, a key that comes to a node, looks that are left out.
-    fn shown(&self, command: &Command) -> Result<Option<(Mark, String)>, AllocError> {
+    // What another shows in the register, a key that comes to a node.
+    fn shown(&self, showing: &Showing) -> Result<(Mark, String), AllocError> {
+        let heap = self.cast.heap;
+        match *showing {
+            Showing::ShowsSheet { by, number, .. } => {
+                let text = format!(in heap; "shows sheet {number}")?;
+                Ok((self.lanes.to_register(by), text))
+            }
+            Showing::ShowsKey { by, key, .. } => {
+                let text = format!(in heap; "shows key {key}")?;
+                Ok((self.lanes.to_register(by), text))
+            }
+            Showing::KeyTo { key, to } => {
+                let text = format!(in heap; "is told key {key}")?;
+                Ok((self.lanes.note(to), text))
+            }
+        }
+    }
+
+    // What is drawn of a line of the script, if it is.
+    fn commanded(&self, command: &Command) -> Result<Option<(Mark, String)>, AllocError> {
         let heap = self.cast.heap;
         match *command {
-            Command::ShowsSheet { by, number, .. } => {
-                let text = format!(in heap; "shows sheet {number}")?;
-                Ok(Some((self.lanes.to_register(by), text)))
-            }
-            Command::ShowsKey { by, key, .. } => {
-                let text = format!(in heap; "shows key {key}")?;
-                Ok(Some((self.lanes.to_register(by), text)))
-            }
-            Command::KeyTo { key, to } => {
-                let text = format!(in heap; "is told key {key}")?;
-                Ok(Some((self.lanes.note(to), text)))
-            }
-            Command::MissesLooks { node, until } => {
+            Command::Deed(deed) => Ok(Some(self.told(&deed)?)),
+            Command::Wish(wish) => Ok(Some(self.asked(&wish)?)),
+            Command::Showing(showing) => Ok(Some(self.shown(&showing)?)),
+            // looks that are left out
+            Command::Turn(Turn::MissesLooks { node, until }) => {
                 let text = format!(in heap; "doesn't look until tick {until}")?;
                 Ok(Some((self.lanes.note(node), text)))
             }
-            _ => Ok(None),
+            Command::Turn(_) | Command::Tick { .. } | Command::Arrivals { .. } | Command::Show =>
+                Ok(None),
         }
     }
 
     // What happens in the register.
-    fn in_register(&self, what: &Happening) -> Result<Option<Sketch>, AllocError> {
+    fn in_register(&self, what: &InRegister) -> Result<Option<Sketch>, AllocError> {
         let heap = self.cast.heap;
         let lane = self.lanes.of_register();
         match *what {
-            Happening::Opened {
+            InRegister::Opened {
                 account,
                 number,
                 until,
@@ -209,18 +219,18 @@ impl Artist<'_> {
                 let pair = self.cast.pair(account);
                 let bar = bar_of(self.events, account);
                 let text = format!(in heap; "{pair}: dispute, sheet {number}, until {until}")?;
-                Ok(plain(Mark::BarBegins { lane, bar }, text))
+                Ok(Some(plain(Mark::BarBegins { lane, bar }, text)))
             }
-            Happening::Replaced {
+            InRegister::Replaced {
                 account,
                 number,
                 until,
             } => {
                 let pair = self.cast.pair(account);
                 let text = format!(in heap; "{pair}: now sheet {number}, until {until}")?;
-                Ok(plain(Mark::Note { lane }, text))
+                Ok(Some(plain(Mark::Note { lane }, text)))
             }
-            Happening::TurnedAway { account, number } => {
+            InRegister::TurnedAway { account, number } => {
                 let pair = self.cast.pair(account);
                 let text = format!(in heap; "{pair}: sheet {number}")?;
                 Ok(Some(Sketch {
@@ -229,56 +239,55 @@ impl Artist<'_> {
                     text,
                 }))
             }
-            Happening::Ended { account, number } => {
+            InRegister::Ended { account, number } => {
                 let pair = self.cast.pair(account);
                 let bar = bar_of(self.events, account);
                 let text = format!(in heap; "{pair}: ended, sheet {number}")?;
-                Ok(plain(Mark::BarEnds { lane, bar }, text))
+                Ok(Some(plain(Mark::BarEnds { lane, bar }, text)))
             }
-            Happening::KeyCame { account, key } => {
+            InRegister::KeyCame { account, key } => {
                 let pair = self.cast.pair(account);
                 let key = self.cast.key(&key);
                 let text = format!(in heap; "{pair}: key {key}")?;
-                Ok(plain(Mark::Key { lane }, text))
+                Ok(Some(plain(Mark::Key { lane }, text)))
             }
-            _ => Ok(None),
+            InRegister::Page { .. } | InRegister::PageKey { .. } => Ok(None),
         }
     }
 
     // What a node shows and learns, and how it stops and starts.
-    fn of_node(&self, what: &Happening) -> Result<Option<Sketch>, AllocError> {
+    fn of_node(&self, what: &OfNode) -> Result<Sketch, AllocError> {
         let heap = self.cast.heap;
         match *what {
-            Happening::SheetShown { by, number, .. } => {
+            OfNode::SheetShown { by, number, .. } => {
                 let text = format!(in heap; "shows sheet {number}")?;
                 Ok(plain(self.lanes.to_register(by), text))
             }
-            Happening::KeyShown { by, key, .. } => {
+            OfNode::KeyShown { by, key, .. } => {
                 let key = self.cast.key(&key);
                 let text = format!(in heap; "shows key {key}")?;
                 Ok(plain(self.lanes.to_register(by), text))
             }
-            Happening::Learned { node, key } => {
+            OfNode::Learned { node, key } => {
                 let key = self.cast.key(&key);
                 let lane = self.lanes.of_party(node);
                 let text = format!(in heap; "learns key {key}")?;
                 Ok(plain(Mark::Key { lane }, text))
             }
-            Happening::Missed { node, last } => {
+            OfNode::Missed { node, last } => {
                 let text = format!(in heap; "too late: last look at tick {last}")?;
                 Ok(plain(self.lanes.note(node), text))
             }
-            Happening::Stopped { node } => {
+            OfNode::Stopped { node } => {
                 let lane = self.lanes.of_party(node);
                 let text = String::from_str(heap, "stopped")?;
                 Ok(plain(Mark::Stop { lane }, text))
             }
-            Happening::Started { node } => {
+            OfNode::Started { node } => {
                 let lane = self.lanes.of_party(node);
                 let text = String::from_str(heap, "started")?;
                 Ok(plain(Mark::Start { lane }, text))
             }
-            _ => self.in_register(what),
         }
     }
 
@@ -286,13 +295,13 @@ impl Artist<'_> {
     pub(crate) fn sketch(&self, what: &Happening) -> Result<Option<Sketch>, AllocError> {
         let heap = self.cast.heap;
         match *what {
-            Happening::Played { command, answer } => match self.told(&command)? {
-                Some((mark, text)) => answered(mark, text, answer),
+            Happening::Played { command, answer } => match self.commanded(&command)? {
+                Some((mark, text)) => Ok(Some(answered(mark, text, answer)?)),
                 None => Ok(None),
             },
             Happening::Sent { from, to, letter } => {
                 let text = letter_text(heap, letter)?;
-                Ok(plain(self.lanes.arrow(from, to), text))
+                Ok(Some(plain(self.lanes.arrow(from, to), text)))
             }
             // a message that a node took has its arrow already, by which it was sent
             Happening::Came {
@@ -304,16 +313,23 @@ impl Artist<'_> {
                 letter,
                 answer,
                 ..
-            } => answered(self.lanes.note(to), letter_text(heap, letter)?, answer),
+            } => {
+                let text = letter_text(heap, letter)?;
+                Ok(Some(answered(self.lanes.note(to), text, answer)?))
+            }
             // a look that was taken has no row; what came of it has
             Happening::Looked {
                 node,
                 answer: Answer::Refused(refusal),
             } => {
                 let text = String::from_str(heap, "looks")?;
-                answered(self.lanes.note(node), text, Answer::Refused(refusal))
+                let answer = Answer::Refused(refusal);
+                Ok(Some(answered(self.lanes.note(node), text, answer)?))
             }
-            _ => self.of_node(what),
+            Happening::Looked { .. } => Ok(None),
+            Happening::Node(what) => Ok(Some(self.of_node(&what)?)),
+            Happening::Register(what) => self.in_register(&what),
+            Happening::Standing(_) | Happening::Outcome(_) => Ok(None),
         }
     }
 }

@@ -3,7 +3,7 @@ use crate::cast::Cast;
 use crate::names::Said;
 use register::Phase;
 use sheet::{Payment, Sheet};
-use stage::{Ending, Event, Happening, Letter};
+use stage::{Ending, Event, Happening, InRegister, Letter, OfNode, Outcome, Standing};
 use std::alloc::AllocError;
 
 fn push_payments(
@@ -63,9 +63,9 @@ fn push_ending(out: &mut String, ending: Ending) -> Result<(), AllocError> {
 }
 
 // What happens in the register.
-fn push_in_register(out: &mut String, cast: &Cast, what: &Happening) -> Result<(), AllocError> {
+fn push_in_register(out: &mut String, cast: &Cast, what: &InRegister) -> Result<(), AllocError> {
     match *what {
-        Happening::Opened {
+        InRegister::Opened {
             account,
             number,
             until,
@@ -76,7 +76,7 @@ fn push_in_register(out: &mut String, cast: &Cast, what: &Happening) -> Result<(
                 "register {pair} opens with sheet {number} until {until}"
             )
         }
-        Happening::Replaced {
+        InRegister::Replaced {
             account,
             number,
             until,
@@ -87,37 +87,36 @@ fn push_in_register(out: &mut String, cast: &Cast, what: &Happening) -> Result<(
                 "register {pair} goes on with sheet {number} until {until}"
             )
         }
-        Happening::TurnedAway { account, number } => {
+        InRegister::TurnedAway { account, number } => {
             let pair = cast.pair(account);
             write!(out, "register {pair} turns away sheet {number}")
         }
-        Happening::Ended { account, number } => {
+        InRegister::Ended { account, number } => {
             let pair = cast.pair(account);
             write!(out, "register {pair} ends with sheet {number}")
         }
-        Happening::KeyCame { account, key } => {
+        InRegister::KeyCame { account, key } => {
             let pair = cast.pair(account);
             let key = cast.key(&key);
             write!(out, "register {pair} has key {key}")
         }
-        Happening::Page { account, phase } => {
+        InRegister::Page { account, phase } => {
             let pair = cast.pair(account);
             write!(out, "register {pair}")?;
             push_phase(out, &phase)
         }
-        Happening::PageKey { account, key, tick } => {
+        InRegister::PageKey { account, key, tick } => {
             let pair = cast.pair(account);
             let key = cast.key(&key);
             write!(out, "register {pair} key {key} since tick {tick}")
         }
-        _ => Ok(()),
     }
 }
 
 // What a node does.
-fn push_of_node(out: &mut String, cast: &Cast, what: &Happening) -> Result<(), AllocError> {
+fn push_of_node(out: &mut String, cast: &Cast, what: &OfNode) -> Result<(), AllocError> {
     match *what {
-        Happening::SheetShown {
+        OfNode::SheetShown {
             by,
             account,
             number,
@@ -126,40 +125,39 @@ fn push_of_node(out: &mut String, cast: &Cast, what: &Happening) -> Result<(), A
             let pair = cast.pair(account);
             write!(out, "{node} shows sheet {number} of {pair}")
         }
-        Happening::KeyShown { by, account, key } => {
+        OfNode::KeyShown { by, account, key } => {
             let node = cast.party(by);
             let pair = cast.pair(account);
             let key = cast.key(&key);
             write!(out, "{node} shows key {key} for {pair}")
         }
-        Happening::Learned { node, key } => {
+        OfNode::Learned { node, key } => {
             let node = cast.party(node);
             let key = cast.key(&key);
             write!(out, "{node} learns key {key}")
         }
-        Happening::Missed { node, last } => {
+        OfNode::Missed { node, last } => {
             let node = cast.party(node);
             write!(
                 out,
                 "{node} has not looked since tick {last}, too long ago: the promise does not cover this"
             )
         }
-        Happening::Stopped { node } => {
+        OfNode::Stopped { node } => {
             let node = cast.party(node);
             write!(out, "{node} is stopped")
         }
-        Happening::Started { node } => {
+        OfNode::Started { node } => {
             let node = cast.party(node);
             write!(out, "{node} is started")
         }
-        _ => push_in_register(out, cast, what),
     }
 }
 
-// What is there at `show`, and what each node comes out with.
-fn push_standing(out: &mut String, cast: &Cast, what: &Happening) -> Result<(), AllocError> {
+// What is there at `show`.
+fn push_standing(out: &mut String, cast: &Cast, what: &Standing) -> Result<(), AllocError> {
     match *what {
-        Happening::Held {
+        Standing::Held {
             node,
             account,
             sheet,
@@ -170,7 +168,7 @@ fn push_standing(out: &mut String, cast: &Cast, what: &Happening) -> Result<(), 
             push_sheet(out, cast, &sheet)?;
             out.push_str(if frozen { " frozen" } else { "" })
         }
-        Happening::Next {
+        Standing::Next {
             node,
             account,
             sheet,
@@ -179,7 +177,13 @@ fn push_standing(out: &mut String, cast: &Cast, what: &Happening) -> Result<(), 
             write!(out, "{side} next ")?;
             push_sheet(out, cast, &sheet)
         }
-        Happening::Result {
+    }
+}
+
+// What each node comes out with.
+fn push_outcome(out: &mut String, cast: &Cast, what: &Outcome) -> Result<(), AllocError> {
+    match *what {
+        Outcome::Result {
             node,
             account,
             put_in,
@@ -189,7 +193,7 @@ fn push_standing(out: &mut String, cast: &Cast, what: &Happening) -> Result<(), 
             write!(out, "{side} put in {put_in}")?;
             push_ending(out, ending)
         }
-        Happening::Total {
+        Outcome::Total {
             node,
             put_in,
             came_out,
@@ -201,7 +205,6 @@ fn push_standing(out: &mut String, cast: &Cast, what: &Happening) -> Result<(), 
                 None => write!(out, " not settled"),
             }
         }
-        _ => push_of_node(out, cast, what),
     }
 }
 
@@ -237,14 +240,17 @@ fn push_what(out: &mut String, cast: &Cast, event: &Event) -> Result<(), AllocEr
             let answer = Said(answer);
             write!(out, "{node} looks: {answer}")
         }
-        _ => push_standing(out, cast, &event.what),
+        Happening::Node(what) => push_of_node(out, cast, &what),
+        Happening::Register(what) => push_in_register(out, cast, &what),
+        Happening::Standing(what) => push_standing(out, cast, &what),
+        Happening::Outcome(what) => push_outcome(out, cast, &what),
     }
 }
 
 // The line of an event.
 pub(crate) fn push_text(out: &mut String, cast: &Cast, event: &Event) -> Result<(), AllocError> {
     match event.what {
-        Happening::Result { .. } | Happening::Total { .. } => out.push_str("end  ")?,
+        Happening::Outcome(_) => out.push_str("end  ")?,
         _ => {
             let tick = event.tick;
             write!(out, "tick {tick}  ")?;

@@ -1,7 +1,7 @@
 // The command of a line's verb with the line's parties and numbers.
 use crate::forms::Verb;
 use crate::tokens::Token;
-use crate::types::{Command, Promised};
+use crate::types::{Command, Deed, Promised, Showing, Turn, Wish};
 use std::array;
 
 // The parties and the numbers of a line, each in the line's order; zeros where there are fewer.
@@ -56,82 +56,82 @@ impl Verb {
         let key = number;
         let promised = Promised { key, amount, end };
         match self {
-            Verb::Offers { signed } => Command::Offers {
+            Verb::Offers { signed } => Command::Deed(Deed::Offers {
                 from: first,
                 to: second,
                 promised,
                 signed,
-            },
-            Verb::Returns { signed } => Command::Returns {
+            }),
+            Verb::Returns { signed } => Command::Deed(Deed::Returns {
                 from: first,
                 to: second,
                 key,
                 signed,
-            },
-            Verb::Pays if parts.first_is_node => Command::Pays {
+            }),
+            Verb::Pays if parts.first_is_node => Command::Wish(Wish::Pays {
                 node: first,
                 to: second,
                 key,
-            },
-            Verb::Pays => Command::Settles {
+            }),
+            Verb::Pays => Command::Deed(Deed::Settles {
                 from: first,
                 to: second,
                 key,
                 signed: true,
-            },
-            Verb::PaysUnsigned => Command::Settles {
+            }),
+            Verb::PaysUnsigned => Command::Deed(Deed::Settles {
                 from: first,
                 to: second,
                 key,
                 signed: false,
-            },
-            Verb::Signs => Command::Signs {
+            }),
+            Verb::Signs => Command::Deed(Deed::Signs {
                 from: first,
                 to: second,
-            },
-            Verb::Passes => Command::Passes {
+            }),
+            Verb::Passes => Command::Wish(Wish::Passes {
                 node: first,
                 from: second,
                 to: third,
                 promised,
-            },
-            Verb::Gets => Command::Gets {
+            }),
+            Verb::Gets => Command::Wish(Wish::Gets {
                 node: first,
                 from: second,
                 key,
-            },
-            Verb::GivesUp => Command::GivesUp {
+            }),
+            Verb::GivesUp => Command::Wish(Wish::GivesUp {
                 node: first,
                 from: second,
                 key,
-            },
-            Verb::KeyTo => Command::KeyTo { key, to: first },
-            Verb::ShowsSheet => Command::ShowsSheet {
+            }),
+            Verb::KeyTo => Command::Showing(Showing::KeyTo { key, to: first }),
+            Verb::ShowsSheet => Command::Showing(Showing::ShowsSheet {
                 by: first,
                 of: second,
                 number,
-            },
-            Verb::ShowsKey => Command::ShowsKey {
+            }),
+            Verb::ShowsKey => Command::Showing(Showing::ShowsKey {
                 by: first,
                 key,
                 first: second,
                 second: third,
-            },
-            Verb::Looks => Command::Looks { node: first },
-            Verb::LooksByHand => Command::LooksByHand { node: first },
-            Verb::LooksByItself => Command::LooksByItself { node: first },
-            Verb::MissesLooks => Command::MissesLooks {
+            }),
+            Verb::Looks => Command::Turn(Turn::Looks { node: first }),
+            Verb::LooksByHand => Command::Turn(Turn::LooksByHand { node: first }),
+            Verb::LooksByItself => Command::Turn(Turn::LooksByItself { node: first }),
+            Verb::MissesLooks => Command::Turn(Turn::MissesLooks {
                 node: first,
                 until: number,
-            },
+            }),
             Verb::Arrivals { at_once } => Command::Arrivals { at_once },
-            Verb::Stops => Command::Stops { node: first },
-            Verb::StopsAfter { lost } => Command::StopsAfter {
+            Verb::Stops => Command::Turn(Turn::Stops { node: first }),
+            Verb::StopsAfter { lost } => Command::Turn(Turn::StopsAfter {
                 node: first,
                 acts: number,
                 lost,
-            },
-            Verb::Starts => Command::Starts { node: first },
+            }),
+            Verb::Starts => Command::Turn(Turn::Starts { node: first }),
             Verb::Show => Command::Show,
         }
     }

@@ -15,4 +15,7 @@ mod words;
 
 pub use reading::read_script;
 pub use tokens::word_at;
-pub use types::{Command, Fault, Opening, Party, Promised, ReadFault, Script, Step, Wrong};
+pub use types::{
+    Command, Deed, Fault, Opening, Party, Promised, ReadFault, Script, Showing, Step, Turn, Wish,
+    Wrong,
+};

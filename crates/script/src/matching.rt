@@ -13,7 +13,11 @@ pub(crate) struct Misfit {
 impl Misfit {
     pub(crate) fn in_line(self, line: u32) -> ReadFault {
         let Misfit { word, wrong } = self;
-        ReadFault::Wrong(Fault { line, word, wrong })
+        ReadFault::Wrong(Fault {
+            line: Some(line),
+            word,
+            wrong,
+        })
     }
 }
 

@@ -5,7 +5,7 @@ use crate::matching::{Misfit, said_by};
 use crate::pairs::check_accounts;
 use crate::settings::{check_opening, check_party};
 use crate::tokens::{tokens_of, word_at};
-use crate::types::{Command, Opening, Party, ReadFault, Script, Step, Wrong};
+use crate::types::{Command, Deed, Fault, Opening, Party, ReadFault, Script, Step, Wrong};
 use lines::{hex_bytes, part_at};
 use schedule::Numbers;
 use std::alloc::Global;
@@ -140,7 +140,7 @@ impl Reader {
         raw.push(b' ')?;
         raw.extend_from_slice(word_at(text, 4))?;
         let [from, to, _] = parts.parties;
-        self.add_step(Command::Sends { from, to }, Some(raw))
+        self.add_step(Command::Deed(Deed::Sends { from, to }), Some(raw))
     }
 
     // One line, without its comment.
@@ -173,7 +173,11 @@ impl Reader {
 
 // Something is wrong with the script as a whole.
 fn wrong_whole(wrong: Wrong) -> ReadFault {
-    Misfit { word: 0, wrong }.in_line(0)
+    ReadFault::Wrong(Fault {
+        line: None,
+        word: 0,
+        wrong,
+    })
 }
 
 // The script that a text writes, or what is wrong with it and where.

@@ -41,7 +41,8 @@ impl Token {
     }
 }
 
-// The words of a line, in order.
+// The words of a line, in order. The type of these steps has closures in it and no name, so no function can give them: `word_at`
+// takes them too, and so does the program that tells of a line.
 pub(crate) fn tokens_of(
     heap: Global,
     parties: &[Party],

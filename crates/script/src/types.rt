@@ -25,10 +25,10 @@ pub struct Promised {
     pub end: u32,
 }
 
-// What a line of the play says. Parties are numbered in the order in which they were named.
+// What another does with a node. Parties are numbered in the order in which they were named.
 #[derive(Clone, Copy, PartialEq, Eq, Debug)]
-pub enum Command {
-    // another proposes a sheet to a node, with its signature or without
+pub enum Deed {
+    // proposes a sheet to the node, with its signature or without
     Offers {
         from: usize,
         to: usize,
@@ -47,12 +47,21 @@ pub enum Command {
         key: u32,
         signed: bool,
     },
-    // another signs what the node has as its next
+    // signs what the node has as its next
     Signs {
         from: usize,
         to: usize,
     },
-    // the owner of a node asks it for something
+    // sends bytes as a message
+    Sends {
+        from: usize,
+        to: usize,
+    },
+}
+
+// What the owner of a node asks it for.
+#[derive(Clone, Copy, PartialEq, Eq, Debug)]
+pub enum Wish {
     Passes {
         node: usize,
         from: usize,
@@ -74,6 +83,11 @@ pub enum Command {
         from: usize,
         key: u32,
     },
+}
+
+// What is shown.
+#[derive(Clone, Copy, PartialEq, Eq, Debug)]
+pub enum Showing {
     // a key comes to a node as a message
     KeyTo {
         key: u32,
@@ -91,49 +105,37 @@ pub enum Command {
         first: usize,
         second: usize,
     },
-    // time goes on
-    Tick {
-        tick: u32,
-    },
-    // how a node looks
-    Looks {
-        node: usize,
-    },
-    LooksByHand {
-        node: usize,
-    },
-    LooksByItself {
-        node: usize,
-    },
-    MissesLooks {
-        node: usize,
-        until: u32,
-    },
-    // does what nodes send to the register arrive at once, or as late as it may
-    Arrivals {
-        at_once: bool,
-    },
-    Stops {
-        node: usize,
-    },
+}
+
+// How a node looks, stops and starts.
+#[derive(Clone, Copy, PartialEq, Eq, Debug)]
+pub enum Turn {
+    Looks { node: usize },
+    LooksByHand { node: usize },
+    LooksByItself { node: usize },
+    MissesLooks { node: usize, until: u32 },
+    Stops { node: usize },
     // in its next entry, after so many acts; what isn't synced is lost or kept
-    StopsAfter {
-        node: usize,
-        acts: u32,
-        lost: bool,
-    },
-    Starts {
-        node: usize,
-    },
-    // bytes as a message
-    Sends {
-        from: usize,
-        to: usize,
-    },
+    StopsAfter { node: usize, acts: u32, lost: bool },
+    Starts { node: usize },
+}
+
+// What a line of the play says.
+#[derive(Clone, Copy, PartialEq, Eq, Debug)]
+pub enum Command {
+    Deed(Deed),
+    Wish(Wish),
+    Showing(Showing),
+    Turn(Turn),
+    // time goes on
+    Tick { tick: u32 },
+    // does what nodes send to the register arrive at once, or as late as it may
+    Arrivals { at_once: bool },
     Show,
 }
 
-// A command, and its line, counted from 1. `raw` has the words of hexadecimal digits of a message that is sent as bytes.
+// A command, and its line, counted from 1. `raw` has the words of hexadecimal digits of a message that is sent as bytes:
+// it stands beside `Sends`, since a command with a Vec in it could not be copied into what is told of it.
 #[derive(Drop)]
 pub struct Step {
     pub line: u32,
@@ -182,10 +184,10 @@ pub enum Wrong {
     TooLong,
 }
 
-// What is wrong, in which line, counted from 1, and at which word, counted from 0; line 0 where no one line has it.
+// What is wrong, in which line, counted from 1, and at which word, counted from 0; in no line where it is the whole script.
 #[derive(Clone, Copy, PartialEq, Eq, Debug)]
 pub struct Fault {
-    pub line: u32,
+    pub line: Option<u32>,
     pub word: usize,
     pub wrong: Wrong,
 }

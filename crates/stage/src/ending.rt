@@ -2,7 +2,7 @@
 use crate::joint::Joint;
 use crate::player::Player;
 use crate::progress::Progress;
-use crate::types::{Ending, Happening, Trouble};
+use crate::types::{Ending, Happening, InRegister, Outcome, Standing, Trouble};
 use crate::world::World;
 use account::Account;
 use register::Phase;
@@ -24,18 +24,18 @@ impl Joint {
         let Some(standing) = self.standing_of(player) else {
             return Ok(());
         };
-        progress.note(Happening::Held {
+        progress.note(Happening::Standing(Standing::Held {
             node: player.party,
             account: self.account,
             sheet: standing.held,
             frozen: standing.is_frozen(),
-        })?;
+        }))?;
         if let Some(next) = standing.under_way() {
-            progress.note(Happening::Next {
+            progress.note(Happening::Standing(Standing::Next {
                 node: player.party,
                 account: self.account,
                 sheet: *next,
-            })?;
+            }))?;
         }
         Ok(())
     }
@@ -43,13 +43,13 @@ impl Joint {
     fn show_page(&self, progress: &mut Progress) -> Result<(), Trouble> {
         let account = self.account;
         let phase = self.page.phase();
-        progress.note(Happening::Page { account, phase })?;
+        progress.note(Happening::Register(InRegister::Page { account, phase }))?;
         for known in self.page.keys() {
-            progress.note(Happening::PageKey {
+            progress.note(Happening::Register(InRegister::PageKey {
                 account,
                 key: known.key,
                 tick: known.tick,
-            })?;
+            }))?;
         }
         Ok(())
     }
@@ -105,19 +105,19 @@ fn end_node(
         if let Some(ending) = joint.ending_of(player, terms, progress.tick) {
             let put_in = joint.end_of(node).put_in;
             sum = sum.add(put_in, ending);
-            progress.note(Happening::Result {
+            progress.note(Happening::Outcome(Outcome::Result {
                 node,
                 account: joint.account,
                 put_in,
                 ending,
-            })?;
+            }))?;
         }
     }
-    progress.note(Happening::Total {
+    progress.note(Happening::Outcome(Outcome::Total {
         node,
         put_in: sum.put_in,
         came_out: sum.came_out,
-    })
+    }))
 }
 
 impl World {

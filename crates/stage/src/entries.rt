@@ -2,7 +2,7 @@
 use crate::joint::shown_in;
 use crate::player::Player;
 use crate::progress::Delivery;
-use crate::types::{Answer, Happening, Trouble};
+use crate::types::{Answer, Happening, OfNode, Trouble};
 use crate::world::{Scene, World, player_in};
 use looking::Shown;
 use plan::Plan;
@@ -52,7 +52,7 @@ impl Scene {
         self.progress.note(what.with(answer))?;
         if stops {
             self.progress
-                .note(Happening::Stopped { node: player.party })?;
+                .note(Happening::Node(OfNode::Stopped { node: player.party }))?;
         }
         self.leave_all(player, done)
     }

@@ -1,6 +1,6 @@
 // An account of two parties, with the register's page for it.
 use crate::progress::{Delivery, Progress};
-use crate::types::{Happening, Letter, Trouble};
+use crate::types::{Happening, InRegister, Letter, Trouble};
 use judgement::Signature;
 use register::{Page, Phase};
 use rules::Message;
@@ -8,12 +8,12 @@ use schedule::Terms;
 use sheet::Sheet;
 use std::alloc::{AllocError, Global};
 
-// One party's side: its number for the account, what it put in, and the sheets that it signed and sent, in its own view.
+// One party's side: its number for the account, where it is a node, what it put in, and the sheets that it signed and sent, in
+// its own view.
 #[derive(Drop)]
 pub(crate) struct End {
     pub(crate) party: usize,
-    pub(crate) is_node: bool,
-    pub(crate) number: u8,
+    pub(crate) number: Option<u8>,
     pub(crate) put_in: u32,
     pub(crate) signed: Vec<Sheet>,
 }
@@ -50,9 +50,10 @@ impl End {
         Ok(())
     }
 
+    // No message of one that is not a node is made here.
     fn signature(&self, number: u32) -> Signature {
         Signature {
-            account: self.number,
+            account: self.number.unwrap_or(0),
             number,
         }
     }
@@ -93,14 +94,10 @@ impl Joint {
         }
     }
 
-    // A party's own number for the account; none where it isn't the party's.
+    // A node's own number for the account; none where it isn't the node's.
     pub(crate) fn number_for(&self, party: usize) -> Option<u8> {
         let end = self.end_of(party);
-        if end.party == party {
-            Some(end.number)
-        } else {
-            None
-        }
+        if end.party == party { end.number } else { None }
     }
 
     // The party has signed the sheet and sent it off.
@@ -139,17 +136,19 @@ impl Joint {
         self.page.show_sheet(terms.window, progress.tick, sheet);
         let after = shown_in(&self.page.phase());
         progress.note(match (before, after) {
-            (None, Some((_, until))) => Happening::Opened {
+            (None, Some((_, until))) => Happening::Register(InRegister::Opened {
                 account,
                 number,
                 until,
-            },
-            (Some((old, _)), Some((new, until))) if old != new => Happening::Replaced {
-                account,
-                number,
-                until,
-            },
-            _ => Happening::TurnedAway { account, number },
+            }),
+            (Some((old, _)), Some((new, until))) if old != new => Happening::Register(
+                InRegister::Replaced {
+                    account,
+                    number,
+                    until,
+                },
+            ),
+            _ => Happening::Register(InRegister::TurnedAway { account, number }),
         })
     }
 
@@ -163,10 +162,10 @@ impl Joint {
             return Ok(());
         }
         self.page.show_key(progress.tick, key)?;
-        progress.note(Happening::KeyCame {
+        progress.note(Happening::Register(InRegister::KeyCame {
             account: self.account,
             key,
-        })
+        }))
     }
 
     pub(crate) fn item_comes(
@@ -187,10 +186,12 @@ impl Joint {
         self.page.turn_to(progress.tick);
         match (before, self.page.phase()) {
             (Phase::Ended { .. }, _) => Ok(()),
-            (_, Phase::Ended { sheet, .. }) => progress.note(Happening::Ended {
-                account: self.account,
-                number: sheet.number,
-            }),
+            (_, Phase::Ended { sheet, .. }) => progress.note(Happening::Register(
+                InRegister::Ended {
+                    account: self.account,
+                    number: sheet.number,
+                },
+            )),
             _ => Ok(()),
         }
     }
@@ -216,11 +217,11 @@ impl Joint {
         let other = self.other_end(from);
         let to = other.party;
         progress.note(Happening::Sent { from, to, letter })?;
-        if other.is_node {
+        if let Some(account) = other.number {
             progress.deliveries.push_back(Delivery {
                 from,
                 to,
-                account: other.number,
+                account,
                 letter,
                 message,
             })?;

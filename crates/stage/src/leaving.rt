@@ -1,7 +1,7 @@
 // What leaves a node: messages to its neighbours, and what it shows to the register.
 use crate::joint::Item;
 use crate::player::Player;
-use crate::types::{Happening, Trouble};
+use crate::types::{Happening, OfNode, Trouble};
 use crate::world::{Arrival, Scene, numbered};
 use plan::Act;
 use schedule::comes_in_by;
@@ -53,11 +53,11 @@ impl Scene {
         };
         let account = joint.account;
         let shown = joint.in_page_view(party, sheet);
-        self.progress.note(Happening::SheetShown {
+        self.progress.note(Happening::Node(OfNode::SheetShown {
             by: party,
             account,
             number: sheet.number,
-        })?;
+        }))?;
         self.send_off(account, Item::Sheet(shown))
     }
 
@@ -66,11 +66,11 @@ impl Scene {
             return Ok(());
         };
         let account = joint.account;
-        self.progress.note(Happening::KeyShown {
+        self.progress.note(Happening::Node(OfNode::KeyShown {
             by: party,
             account,
             key,
-        })?;
+        }))?;
         self.send_off(account, Item::Key(key))
     }
 
@@ -81,7 +81,9 @@ impl Scene {
             Act::SendSignature(number, sheet) => self.send_signature(player, number, sheet),
             Act::ShowSheet(number, sheet) => self.show_sheet(party, number, sheet),
             Act::ShowKey(number, key) => self.show_key(party, number, key),
-            Act::RecordKey(key) => self.progress.note(Happening::Learned { node: party, key }),
+            Act::RecordKey(key) => self
+                .progress
+                .note(Happening::Node(OfNode::Learned { node: party, key })),
             _ => Ok(()),
         }
     }

@@ -28,7 +28,9 @@ mod turns;
 mod types;
 mod world;
 
-pub use types::{Answer, Ending, Event, Happening, Letter, Trouble};
+pub use types::{
+    Answer, Ending, Event, Happening, InRegister, Letter, OfNode, Outcome, Standing, Trouble,
+};
 
 fn players_of(heap: Global, script: &Script, terms: Terms) -> Result<Vec<Player>, Trouble> {
     let mut players = Vec::new(heap);
@@ -48,17 +50,14 @@ fn open_end(
     put_in: u32,
     theirs: u32,
 ) -> Result<End, Trouble> {
-    let player = player_in(players, party);
-    let is_node = player.is_some();
-    let number = match player {
-        Some(player) => player.open(put_in, theirs)?,
-        None => 0,
+    let number = match player_in(players, party) {
+        Some(player) => Some(player.open(put_in, theirs)?),
+        None => None,
     };
     let mut signed = Vec::new(heap);
-    signed.push(Sheet::first(number, put_in, theirs))?;
+    signed.push(Sheet::first(number.unwrap_or(0), put_in, theirs))?;
     Ok(End {
         party,
-        is_node,
         number,
         put_in,
         signed,

@@ -17,8 +17,16 @@ pub(crate) struct Cut {
     pub(crate) lost: bool,
 }
 
-// `synced` is how much of the file outlasts a stop for certain. `looked` is the tick of the last look, and before `by_hand_until`
-// the node doesn't look by itself. `missed` says that this was told already.
+// How a node looks: by itself, or only where the script says so, for good or before a tick.
+#[derive(Clone, Copy)]
+pub(crate) enum Looks {
+    ByItself,
+    ByHand,
+    ByHandUntil(u32),
+}
+
+// `synced` is how much of the file outlasts a stop for certain. `looked` is the tick of the last look. `missed` says that it was
+// told already that a look was missed.
 #[derive(Drop)]
 pub(crate) struct Player {
     pub(crate) party: usize,
@@ -28,7 +36,7 @@ pub(crate) struct Player {
     pub(crate) running: bool,
     pub(crate) cut: Option<Cut>,
     pub(crate) looked: u32,
-    pub(crate) by_hand_until: u64,
+    pub(crate) looks: Looks,
     pub(crate) missed: bool,
 }
 
@@ -59,7 +67,7 @@ impl Player {
             running: true,
             cut: None,
             looked: 0,
-            by_hand_until: 0,
+            looks: Looks::ByItself,
             missed: false,
         })
     }
@@ -112,7 +120,11 @@ impl Player {
 
     // Does the node look by itself at a tick, if it runs.
     pub(crate) fn looks_by_itself(&self, tick: u32) -> bool {
-        self.by_hand_until <= u64::from(tick)
+        match self.looks {
+            Looks::ByItself => true,
+            Looks::ByHand => false,
+            Looks::ByHandUntil(until) => until <= tick,
+        }
     }
 
     // The sheet with a number that the node has as its next or as held.

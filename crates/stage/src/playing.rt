@@ -1,11 +1,11 @@
 // The lines of a script, one by one.
 use crate::others::payment;
-use crate::player::Cut;
+use crate::player::{Cut, Looks};
 use crate::types::{Answer, Trouble};
 use crate::world::World;
 use change::Change;
 use rules::Call;
-use script::{Command, Step};
+use script::{Command, Deed, Showing, Step, Turn, Wish};
 use small_keys::lock_of;
 
 impl World {
@@ -26,9 +26,10 @@ impl World {
     }
 
     // What an owner asks of its node.
-    fn play_call(&mut self, command: Command) -> Result<(), Trouble> {
-        match command {
-            Command::Passes {
+    fn play_wish(&mut self, wish: Wish) -> Result<(), Trouble> {
+        let command = Command::Wish(wish);
+        match wish {
+            Wish::Passes {
                 node,
                 from,
                 to,
@@ -41,15 +42,15 @@ impl World {
                 }
                 None => Ok(()),
             },
-            Command::Pays { node, to, key } => {
+            Wish::Pays { node, to, key } => {
                 let lock = lock_of(key);
                 self.ask_about(node, to, |account| Call::Pay { account, lock }, command)
             }
-            Command::Gets { node, from, key } => {
+            Wish::Gets { node, from, key } => {
                 let lock = lock_of(key);
                 self.ask_about(node, from, |account| Call::Get { account, lock }, command)
             }
-            Command::GivesUp { node, from, key } => {
+            Wish::GivesUp { node, from, key } => {
                 let lock = lock_of(key);
                 self.ask_about(
                     node,
@@ -58,14 +59,14 @@ impl World {
                     command,
                 )
             }
-            _ => self.play_turn(command),
         }
     }
 
-    // What another does.
-    fn play(&mut self, command: Command) -> Result<(), Trouble> {
-        match command {
-            Command::Offers {
+    // What another does; `raw` is what it sends, where it sends bytes.
+    fn play_deed(&mut self, deed: Deed, raw: &Option<Vec<u8>>) -> Result<(), Trouble> {
+        let command = Command::Deed(deed);
+        match deed {
+            Deed::Offers {
                 from,
                 to,
                 promised,
@@ -74,62 +75,73 @@ impl World {
                 let payment = payment(promised);
                 self.propose(from, to, Change::PassingOn, payment, signed, command)
             }
-            Command::Returns {
+            Deed::Returns {
                 from,
                 to,
                 key,
                 signed,
             } => self.take_off(from, to, Change::GivingUp, key, signed, command),
-            Command::Settles {
+            Deed::Settles {
                 from,
                 to,
                 key,
                 signed,
             } => self.take_off(from, to, Change::Paying, key, signed, command),
-            Command::Signs { from, to } => self.sign(from, to, command),
-            Command::KeyTo { key, to } => self.key_to(key, to, command),
-            Command::ShowsSheet { by, of, number } => self.show_old(by, of, number, command),
-            Command::ShowsKey {
+            Deed::Signs { from, to } => self.sign(from, to, command),
+            Deed::Sends { from, to } => match raw {
+                Some(raw) => self.send_raw(from, to, raw.as_slice(), command),
+                None => Ok(()),
+            },
+        }
+    }
+
+    fn play_showing(&mut self, showing: Showing) -> Result<(), Trouble> {
+        let command = Command::Showing(showing);
+        match showing {
+            Showing::KeyTo { key, to } => self.key_to(key, to, command),
+            Showing::ShowsSheet { by, of, number } => self.show_old(by, of, number, command),
+            Showing::ShowsKey {
                 key,
                 first,
                 second,
                 ..
             } => self.show_key_for(key, first, second, command),
-            _ => self.play_call(command),
         }
     }
 
     // Looks, stops and starts.
-    fn play_turn(&mut self, command: Command) -> Result<(), Trouble> {
-        match command {
-            Command::Looks { node } => self.looks_by(node, command),
-            Command::LooksByHand { node } => self.by_hand(node, u64::MAX, command),
-            Command::LooksByItself { node } => self.by_hand(node, 0, command),
-            Command::MissesLooks { node, until } => self.by_hand(node, u64::from(until), command),
-            Command::Stops { node } => self.stop(node, command),
-            Command::StopsAfter { node, acts, lost } => {
+    fn play_turn(&mut self, turn: Turn) -> Result<(), Trouble> {
+        let command = Command::Turn(turn);
+        match turn {
+            Turn::Looks { node } => self.looks_by(node, command),
+            Turn::LooksByHand { node } => self.set_looks(node, Looks::ByHand, command),
+            Turn::LooksByItself { node } => self.set_looks(node, Looks::ByItself, command),
+            Turn::MissesLooks { node, until } => {
+                self.set_looks(node, Looks::ByHandUntil(until), command)
+            }
+            Turn::Stops { node } => self.stop(node, command),
+            Turn::StopsAfter { node, acts, lost } => {
                 let acts = acts as usize;
                 self.stop_after(node, Cut { acts, lost }, command)
             }
-            Command::Starts { node } => self.start(node, command),
-            Command::Arrivals { at_once } => {
-                self.scene.at_once = at_once;
-                self.played(command, Answer::Taken)
-            }
-            Command::Tick { tick } => self.go_to(tick),
-            Command::Show => self.show_all(),
-            _ => Ok(()),
+            Turn::Starts { node } => self.start(node, command),
         }
     }
 
     // A line of the script.
     pub(crate) fn play_step(&mut self, step: &Step) -> Result<(), Trouble> {
-        self.scene.progress.line = step.line;
-        match (step.command, &step.raw) {
-            (Command::Sends { from, to }, Some(raw)) => {
-                self.send_raw(from, to, raw.as_slice(), step.command)
+        self.scene.progress.line = Some(step.line);
+        match step.command {
+            Command::Deed(deed) => self.play_deed(deed, &step.raw),
+            Command::Wish(wish) => self.play_wish(wish),
+            Command::Showing(showing) => self.play_showing(showing),
+            Command::Turn(turn) => self.play_turn(turn),
+            Command::Tick { tick } => self.go_to(tick),
+            Command::Arrivals { at_once } => {
+                self.scene.at_once = at_once;
+                self.played(step.command, Answer::Taken)
             }
-            (command, _) => self.play(command),
+            Command::Show => self.show_all(),
         }
     }
 }

@@ -19,7 +19,7 @@ pub(crate) struct Delivery {
 #[derive(Drop)]
 pub(crate) struct Progress {
     pub(crate) tick: u32,
-    pub(crate) line: u32,
+    pub(crate) line: Option<u32>,
     pub(crate) events: Vec<Event>,
     pub(crate) deliveries: VecDeque<Delivery>,
 }
@@ -28,7 +28,7 @@ impl Progress {
     pub(crate) fn new(heap: Global) -> Progress {
         Progress {
             tick: 0,
-            line: 0,
+            line: None,
             events: Vec::new(heap),
             deliveries: VecDeque::new(heap),
         }

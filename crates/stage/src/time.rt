@@ -1,6 +1,6 @@
 // Time: what happens at each tick by itself.
 use crate::player::Player;
-use crate::types::{Happening, Trouble};
+use crate::types::{Happening, OfNode, Trouble};
 use crate::world::{Scene, World};
 use schedule::{is_due, is_missed};
 
@@ -43,10 +43,10 @@ impl Scene {
             return Ok(());
         }
         player.missed = true;
-        self.progress.note(Happening::Missed {
+        self.progress.note(Happening::Node(OfNode::Missed {
             node: player.party,
             last: player.looked,
-        })
+        }))
     }
 }
 

@@ -1,6 +1,6 @@
 // How nodes look, stop and start.
-use crate::player::Cut;
-use crate::types::{Answer, Happening, Trouble};
+use crate::player::{Cut, Looks};
+use crate::types::{Answer, Happening, OfNode, Trouble};
 use crate::world::{World, player_in};
 use script::Command;
 
@@ -9,15 +9,15 @@ impl World {
         self.note(Happening::Played { command, answer })
     }
 
-    // Before this tick the node looks only where the script says so.
-    pub(crate) fn by_hand(
+    // From now on the node looks so.
+    pub(crate) fn set_looks(
         &mut self,
         node: usize,
-        until: u64,
+        looks: Looks,
         command: Command,
     ) -> Result<(), Trouble> {
         if let Some(player) = self.player_mut(node) {
-            player.by_hand_until = until;
+            player.looks = looks;
         }
         self.played(command, Answer::Taken)
     }
@@ -40,7 +40,7 @@ impl World {
             player.stop(false);
         }
         self.played(command, Answer::Taken)?;
-        self.note(Happening::Stopped { node })
+        self.note(Happening::Node(OfNode::Stopped { node }))
     }
 
     // The node comes up from its file, sends again, and looks unless the script keeps it from that.
@@ -49,7 +49,9 @@ impl World {
             return Ok(());
         };
         player.start(self.scene.heap, self.scene.terms)?;
-        self.scene.progress.note(Happening::Started { node })?;
+        self.scene
+            .progress
+            .note(Happening::Node(OfNode::Started { node }))?;
         self.scene.send_again(player)?;
         if player.looks_by_itself(self.scene.progress.tick) {
             self.scene.looks_itself(player)?;

@@ -56,52 +56,9 @@ impl Ending {
     }
 }
 
-// Parties and accounts go by their numbers in the script.
+// What happens in the register, and what it has at `show`. Accounts go by their numbers in the script.
 #[derive(Clone, Copy)]
-pub enum Happening {
-    // a line of the script was played
-    Played {
-        command: Command,
-        answer: Answer,
-    },
-    // a node sends a message to its neighbour; a message of a node comes to another node
-    Sent {
-        from: usize,
-        to: usize,
-        letter: Letter,
-    },
-    Came {
-        from: usize,
-        to: usize,
-        letter: Letter,
-        answer: Answer,
-    },
-    // a node sends a sheet or a key to the register
-    SheetShown {
-        by: usize,
-        account: usize,
-        number: u32,
-    },
-    KeyShown {
-        by: usize,
-        account: usize,
-        key: [u8; 32],
-    },
-    // a node has a key from now on
-    Learned {
-        node: usize,
-        key: [u8; 32],
-    },
-    Looked {
-        node: usize,
-        answer: Answer,
-    },
-    // the node hasn't looked for longer than it may: the promise doesn't cover what follows
-    Missed {
-        node: usize,
-        last: u32,
-    },
-    // in the register
+pub enum InRegister {
     Opened {
         account: usize,
         number: u32,
@@ -124,13 +81,52 @@ pub enum Happening {
         account: usize,
         key: [u8; 32],
     },
+    Page {
+        account: usize,
+        phase: Phase,
+    },
+    PageKey {
+        account: usize,
+        key: [u8; 32],
+        tick: u32,
+    },
+}
+
+// What a node does, by itself or as it is told. Parties go by their numbers in the script.
+#[derive(Clone, Copy)]
+pub enum OfNode {
+    // sends a sheet or a key to the register
+    SheetShown {
+        by: usize,
+        account: usize,
+        number: u32,
+    },
+    KeyShown {
+        by: usize,
+        account: usize,
+        key: [u8; 32],
+    },
+    // has a key from now on
+    Learned {
+        node: usize,
+        key: [u8; 32],
+    },
+    // hasn't looked for longer than it may: the promise doesn't cover what follows
+    Missed {
+        node: usize,
+        last: u32,
+    },
     Stopped {
         node: usize,
     },
     Started {
         node: usize,
     },
-    // what is there, at `show`
+}
+
+// What a node has for an account, at `show`.
+#[derive(Clone, Copy)]
+pub enum Standing {
     Held {
         node: usize,
         account: usize,
@@ -142,16 +138,11 @@ pub enum Happening {
         account: usize,
         sheet: Sheet,
     },
-    Page {
-        account: usize,
-        phase: Phase,
-    },
-    PageKey {
-        account: usize,
-        key: [u8; 32],
-        tick: u32,
-    },
-    // at the end
+}
+
+// What a node comes out with at the end.
+#[derive(Clone, Copy)]
+pub enum Outcome {
     Result {
         node: usize,
         account: usize,
@@ -166,11 +157,40 @@ pub enum Happening {
     },
 }
 
-// Something that happens, its tick, and the line of the script that was being played; line 0 is before the first.
+#[derive(Clone, Copy)]
+pub enum Happening {
+    // a line of the script was played
+    Played {
+        command: Command,
+        answer: Answer,
+    },
+    // a node sends a message to its neighbour; a message of a node comes to another node
+    Sent {
+        from: usize,
+        to: usize,
+        letter: Letter,
+    },
+    Came {
+        from: usize,
+        to: usize,
+        letter: Letter,
+        answer: Answer,
+    },
+    Looked {
+        node: usize,
+        answer: Answer,
+    },
+    Node(OfNode),
+    Register(InRegister),
+    Standing(Standing),
+    Outcome(Outcome),
+}
+
+// Something that happens, its tick, and the line of the script that was being played, counted from 1; none before the first.
 #[derive(Clone, Copy)]
 pub struct Event {
     pub tick: u32,
-    pub line: u32,
+    pub line: Option<u32>,
     pub what: Happening,
 }
 

@@ -38,9 +38,10 @@ pub(crate) fn player_in(players: &mut [Player], party: usize) -> Option<&mut Pla
 
 // The account that a party knows by a number.
 pub(crate) fn numbered(accounts: &mut [Joint], party: usize, number: usize) -> Option<&mut Joint> {
-    accounts.iter_mut().find(|joint| match joint.number_for(party) {
-        Some(own) => usize::from(own) == number,
-        None => false,
+    accounts.iter_mut().find(|joint| {
+        joint
+            .number_for(party)
+            .is_some_and(|own| usize::from(own) == number)
     })
 }
 

@@ -1,7 +1,7 @@
 use Rattle.std.proofs.Common.{◌++◌, get_or, take, vec_items, sym, ap, ◌∙◌}
 use Rattle.std.proofs.lemmas.List.{take_all, take_more, flat_map_more}
 use Rattle.picture.specs.Escape.{escaped_byte, escaped}
-use Rattle.picture.proofs.escape.push_bytes.Goals as goal
+use Rattle.picture.proofs.escape.push_escaped.Goals as goal
 
 pub loop-b-preserved : goal.loop-b-preserved
 loop-b-preserved c = (

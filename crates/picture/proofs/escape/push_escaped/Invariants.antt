@@ -1,6 +1,6 @@
 use Rattle.std.proofs.Common.{◌≡◌, ◌++◌, take, vec_items}
 use Rattle.picture.specs.Escape.{escaped}
-use Rattle.picture.proofs.escape.push_bytes.Given as goal
+use Rattle.picture.proofs.escape.push_escaped.Given as goal
 
 abbrev pub invariant-loop-b : goal.invariant-loop-b
 invariant-loop-b l = vec_items l.out ≡ vec_items l.initial.out ++ escaped (take l.b-index l.text)
