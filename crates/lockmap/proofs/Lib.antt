@@ -1,2 +1,3 @@
+mod Ordered
 mod Holding
 pub mod Laws
