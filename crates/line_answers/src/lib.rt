@@ -14,11 +14,19 @@ pub fn answer_lines<F: FnMut(Global, &[u8], &mut Vec<u8>) -> anyhow::Result<()>>
     requires { F.IsAlwaysCallable answer }
 {
     let heap = rt.alloc();
+    let mut input = BufReader::new(heap, rt.stdin())?;
+    let mut line = Vec::new(heap);
     let mut out = Vec::new(heap);
-    for line in BufReader::new(heap, rt.stdin())?.split(heap, b'\n') {
-        let line = line?;
+    // One buffer for all lines: `split` makes one for each, and long lines then take half as much memory again. A loop that waits
+    // on input has to be counted, since each function ends.
+    for _ in 0..u64::MAX {
+        line.clear();
+        if input.read_until(b'\n', &mut line)? == 0 {
+            break;
+        }
+        let text = line.as_slice();
         out.clear();
-        answer(heap, line.as_slice(), &mut out)?;
+        answer(heap, text.strip_suffix(b"\n").unwrap_or(text), &mut out)?;
         rt.stdout().write_all(out.as_slice())?;
     }
     Ok(())

@@ -55,6 +55,17 @@ pairs_whole (suc k) [] h = absurd (omega arith)
 pairs_whole (suc k) (a ∷ []) h = absurd (omega arith)
 pairs_whole (suc k) (a ∷ b ∷ w) h = ap (λ t. a ∷ b ∷ t) (pairs_whole k w (omega arith))
 
+-- each of them is two digits
+chunk_two : (k : ℕ) (w : List ℕ) (i : ℕ) (d : List ℕ) → 2 * k ≤ length w → i < k → length (get_or (first_chunks 2 k w) i d) ≡ 2
+chunk_two zero w i d h less = absurd (omega arith)
+chunk_two (suc k) [] i d h less = absurd (omega arith)
+chunk_two (suc k) (a ∷ []) i d h less = absurd (omega arith)
+chunk_two (suc k) (a ∷ b ∷ w) zero d h less = refl
+chunk_two (suc k) (a ∷ b ∷ w) (suc i) d h less = chunk_two k w i d (omega arith) (omega arith)
+
+pub pair_two : (w : List ℕ) (ps : List (List ℕ)) (i : ℕ) (d : List ℕ) → ps ≡ first_chunks 2 (length w / 2) w → i < length w / 2 → length (get_or ps i d) ≡ 2
+pair_two w ps i d e less = ap (λ qs. length (get_or qs i d)) e ∙ chunk_two (length w / 2) w i d (omega arith) less
+
 -- a digit that is left over
 pub hex_odd : (w : List ℕ) (k : ℕ) → length w ≡ 2 * k + 1 → hex_read w ≡ None
 hex_odd [] k h = absurd (omega arith)

@@ -65,15 +65,28 @@ pub fn next_word(line: &[u8]) -> Option<Word<'_>>
     })
 }
 
-// The number that a word writes in decimal digits.
+const LARGEST: u64 = 4_294_967_295;
+
+// The number that a word writes in decimal digits. In one pass: `from_utf8` and `parse` go over each word again, at two to three
+// times the cost, and over the whole of one that begins with no digit.
 pub fn number(word: &[u8]) -> Result<u32, NumberFault>
     ensures { result ≡ number_read word.now }
 {
-    let text = str::from_utf8(word).map_err(|_| NumberFault::NotANumber)?;
-    if word.is_empty() || !word.iter().all(|b| b.is_ascii_digit()) {
+    if word.is_empty() {
         return Err(NumberFault::NotANumber);
     }
-    text.parse().map_err(|_| NumberFault::TooLarge)
+    let mut value = 0;
+    for b in word {
+        if !b.is_ascii_digit() {
+            return Err(NumberFault::NotANumber);
+        }
+        // What is too large stays so.
+        value = (value * 10 + (*b - b'0') as u64).min(LARGEST + 1);
+    }
+    if value > LARGEST {
+        return Err(NumberFault::TooLarge);
+    }
+    Ok(value as u32)
 }
 
 // The values of the bytes from '0' to 'f' as digits, with 16 for a byte that is none; the rows begin at '0', 'A' and 'a'.
@@ -142,13 +155,18 @@ pub fn hex_array<const N: usize>(word: &[u8]) -> Option<[u8; N]>
 pub fn hex_bytes(heap: Global, word: &[u8]) -> Result<Option<Vec<u8>>, AllocError>
     ensures { IfOk result (λ o. option_map vec_items o ≡ hex_read word.now) }
 {
-    let (pairs, left_over) = word.as_chunks();
+    let (pairs, left_over) = word.as_chunks::<2>();
     if !left_over.is_empty() {
         return Ok(None);
     }
-    let mut out = vec![in heap; 0; pairs.len()]?;
-    let read = hex_into(pairs, out.as_mut_slice());
-    Ok(read.and(Some(out)))
+    let mut out = Vec::with_capacity(heap, pairs.len())?;
+    for pair in pairs {
+        let Some(b) = hex_byte(pair[0], pair[1]) else {
+            return Ok(None);
+        };
+        out.push_reserved(b);
+    }
+    Ok(Some(out))
 }
 
 // The digit of a value below 16.

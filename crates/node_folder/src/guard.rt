@@ -23,15 +23,16 @@ fn beginning(status: &[u8]) -> Option<&[u8]> {
         .nth(19)
 }
 
-// The beginning tells a process from a later one with the same number. None where there is no such process.
-fn began(rt: &HostRuntime, pid: &str) -> anyhow::Result<Option<Vec<u8>>> {
+// The beginning tells a process from a later one with the same number. None where there is no such process. Each byte is a
+// character: the system writes digits, but `running` may lead to another file, which need not hold a text.
+fn began(rt: &HostRuntime, pid: &str) -> anyhow::Result<Option<String>> {
     let heap = rt.alloc();
     let path = format!(in heap; "/proc/{pid}/stat")?;
     let Ok(status) = fs::read(rt, path.as_str()) else {
         return Ok(None);
     };
     match beginning(status.as_slice()) {
-        Some(when) => Ok(Some(when.to_vec(heap)?)),
+        Some(when) => Ok(Some(when.iter().map(|b| char::from(*b)).collect(heap)?)),
         None => Ok(None),
     }
 }
@@ -41,7 +42,7 @@ fn still_runs(rt: &HostRuntime, text: &str) -> anyhow::Result<bool> {
     let Some((pid, when)) = text.split_once(' ') else {
         return Ok(false);
     };
-    Ok(began(rt, pid)?.is_some_and(|now| now.as_slice() == when.as_bytes()))
+    Ok(began(rt, pid)?.is_some_and(|now| now.as_str() == when))
 }
 
 impl Guard {
@@ -66,12 +67,12 @@ impl Guard {
         let pid = format!(in heap; "{pid}")?;
         let when = match began(rt, pid.as_str())? {
             Some(when) => when,
-            None => b"unknown".to_vec(heap)?,
+            None => String::from_str(heap, "unknown")?,
         };
         let mut file = File::create_new(rt, path.as_str())?;
         file.write_all(pid.as_bytes())?;
         file.write_all(b" ")?;
-        file.write_all(when.as_slice())?;
+        file.write_all(when.as_bytes())?;
         Ok(Guard { path })
     }
 
