@@ -1,13 +1,13 @@
 -- A payment as forty bytes, and payments one after another: at a place among others, read back, and written again.
-use Rattle.std.proofs.Common.{◌≡◌, ℕ, zero, suc, ◌+◌, ◌*◌, ◌<◌, ◌≤◌, List, [], ◌∷◌, ◌++◌, length, get_or, take, drop, map, sym, refl, ap, ◌∙◌, add-one, arith, take-add}
+use Rattle.std.proofs.Common.{◌≡◌, ℕ, zero, suc, ◌+◌, ◌-◌, ◌*◌, ◌^◌, ◌<◌, ◌≤◌, List, [], ◌∷◌, ◌++◌, length, get_or, take, drop, set, sym, refl, ap, ◌∙◌, add-one, add_comm, mul-suc, mul-zero, arith, take-add}
 use Rattle.std.proofs.ByRecursion.{All-take, All-drop}
-use Rattle.std.proofs.lemmas.List.{append_assoc, drop_at, drop-drop, length-append, length-drop, length-take-le, get_or-take, take_at}
-use Rattle.std.proofs.lemmas.List.FromFn.{fill_by_all, map-range_with_len_more}
-use Rattle.std.specs.List.{flat_map, range_with_len, AllByRecursion}
+use Rattle.std.proofs.lemmas.List.{append_assoc, drop_at, drop-drop, drop-take, length-append, length-drop, length-take-le, get_or-take, take_at, take-take, take_more_set}
+use Rattle.std.specs.List.{flat_map, AllByRecursion}
+use Rattle.std.specs.Simd.{first_chunks}
 use Rattle.sheet.specs.declared.types.Payment.{Payment}
 use Rattle.sheet_bytes.specs.Bytes.{number_bytes, number_of, payment_bytes, payment_of, payments_of}
 use Rattle.sheet_bytes.specs.Theorems.{AreBytes, GoodPayment}
-use Rattle.sheet_bytes.proofs.FourBytes.{number_back, number_again}
+use Rattle.sheet_bytes.proofs.FourBytes.{number_at, number_back, number_again}
 
 pub payment_at : (bs : List ℕ) (at : ℕ) (lock : List ℕ) (amount last : ℕ) → lock ≡ take 32 (drop at bs) → amount ≡ number_of (drop (at + 32) bs) → last ≡ number_of (drop (at + 36) bs) → ◌≡◌ {A = Payment} (record { lock = lock; amount = amount; end = last }) (payment_of (drop at bs))
 payment_at bs at lock amount last e f g =
@@ -21,16 +21,47 @@ payments_suc (suc n) bs =
     let here : drop (40 * n) (drop 40 bs) ≡ drop (40 * suc n) bs = drop-drop (40 * n) 40 bs ∙ ap (λ k. drop k bs) (let e : 40 + 40 * n ≡ 40 * suc n = omega arith in e) in
     ap (λ ps. payment_of bs ∷ ps) (payments_suc n (drop 40 bs)) ∙ ap (λ cs. payment_of bs ∷ (payments_of n (drop 40 bs) ++ payment_of cs ∷ [])) here
 
-payments_by_place : (n : ℕ) (bs : List ℕ) → payments_of n bs ≡ map (λ k. payment_of (drop (40 * k) bs)) (range_with_len 0 n)
-payments_by_place zero bs = refl
-payments_by_place (suc n) bs =
-    payments_suc n bs ∙ ap (λ ps. ps ++ payment_of (drop (40 * n) bs) ∷ []) (payments_by_place n bs) ∙ sym (ap (λ k. map (λ k. payment_of (drop (40 * k) bs)) (range_with_len 0 k)) (sym (add-one n)) ∙ map-range_with_len_more (λ k. payment_of (drop (40 * k) bs)) 0 n n (omega arith))
+-- a payment's 40 bytes are all that it is read from
+number_of_forty : (bs : List ℕ) (at : ℕ) → at + 4 ≤ 40 → number_of (drop at (take 40 bs)) ≡ number_of (drop at bs)
+number_of_forty bs at h =
+    let e0 : get_or (take 40 bs) at 0 ≡ get_or bs at 0 = get_or-take 40 bs at 0 (omega arith) in
+    let e1 : get_or (take 40 bs) (at + 1) 0 ≡ get_or bs (at + 1) 0 = get_or-take 40 bs (at + 1) 0 (omega arith) in
+    let e2 : get_or (take 40 bs) (at + 2) 0 ≡ get_or bs (at + 2) 0 = get_or-take 40 bs (at + 2) 0 (omega arith) in
+    let e3 : get_or (take 40 bs) (at + 3) 0 ≡ get_or bs (at + 3) 0 = get_or-take 40 bs (at + 3) 0 (omega arith) in
+    let same : get_or (take 40 bs) at 0 * 2 ^ 24 + get_or (take 40 bs) (at + 1) 0 * 2 ^ 16 + get_or (take 40 bs) (at + 2) 0 * 2 ^ 8 + get_or (take 40 bs) (at + 3) 0 ≡ get_or bs at 0 * 2 ^ 24 + get_or bs (at + 1) 0 * 2 ^ 16 + get_or bs (at + 2) 0 * 2 ^ 8 + get_or bs (at + 3) 0 = cc in
+    number_at (take 40 bs) at ∙ same ∙ sym (number_at bs at)
 
--- each of the first n payments is read at its place
-pub payments_each : (bs : List ℕ) (at n : ℕ) (list : List Payment) (d : Payment) → n ≤ length list → ((k : ℕ) → k < n → get_or list k d ≡ payment_of (drop (at + 40 * k) bs)) → take n list ≡ payments_of n (drop at bs)
-payments_each bs at n list d h each =
-    fill_by_all (λ k. payment_of (drop (40 * k) (drop at bs))) (take n list) n d (length-take-le n list h) (λ k l. get_or-take n list k d l ∙ each k l ∙ ap payment_of (sym (drop-drop (40 * k) at bs)))
-    ∙ sym (payments_by_place n (drop at bs))
+payment_of_forty : (bs : List ℕ) → payment_of (take 40 bs) ≡ payment_of bs
+payment_of_forty bs =
+    let lock : take 32 (take 40 bs) ≡ take 32 bs = take-take 32 40 bs (omega arith) in
+    let amount = number_of_forty bs 32 (omega arith) in
+    let last = number_of_forty bs 36 (omega arith) in
+    cc
+
+-- a chunk among all
+chunk_at : (n k : ℕ) (xs : List ℕ) (i : ℕ) (d : List ℕ) → i < k → get_or (first_chunks n k xs) i d ≡ take n (drop (n * i) xs)
+chunk_at n zero xs i d h = absurd (omega arith)
+chunk_at n (suc k) xs zero d h = ap (λ j. take n (drop j xs)) (sym (mul-zero n))
+chunk_at n (suc k) xs (suc i) d h =
+    let more : n * suc i ≡ n + n * i = mul-suc n i ∙ add_comm (n * i) n in
+    chunk_at n k (drop n xs) i d (omega arith) ∙ ap (λ t. take n t) (drop-drop (n * i) n xs ∙ sym (ap (λ j. drop j xs) more))
+
+-- the i-th of the chunks of 40 bytes that stand from a place on
+pub payment_of_chunk : (bs : List ℕ) (at n i : ℕ) (forties : List (List ℕ)) → i < n → forties ≡ first_chunks 40 n (take (40 * n) (drop at bs)) → payment_of (get_or forties i []) ≡ payment_of (drop (at + 40 * i) bs)
+payment_of_chunk bs at n i forties h e =
+    let rest : 40 * n ≡ 40 * i + 40 * (n - i) = omega arith in
+    let past : drop (40 * i) (take (40 * n) (drop at bs)) ≡ take (40 * (n - i)) (drop (at + 40 * i) bs) =
+    ap (λ k. drop (40 * i) (take k (drop at bs))) rest ∙ drop-take (40 * i) (40 * (n - i)) (drop at bs) ∙ ap (λ cs. take (40 * (n - i)) cs) (drop-drop (40 * i) at bs)
+    in
+    let forty : get_or forties i [] ≡ take 40 (drop (at + 40 * i) bs) =
+    ap (λ fs. get_or fs i []) e ∙ chunk_at 40 n (take (40 * n) (drop at bs)) i [] h ∙ ap (λ cs. take 40 cs) past ∙ take-take 40 (40 * (n - i)) (drop (at + 40 * i) bs) (omega arith)
+    in
+    ap payment_of forty ∙ payment_of_forty (drop (at + 40 * i) bs)
+
+pub payments_more : (bs : List ℕ) (at i : ℕ) (list : List Payment) (p : Payment) → i < length list → take i list ≡ payments_of i (drop at bs) → p ≡ payment_of (drop (at + 40 * i) bs) → take (i + 1) (set list i p) ≡ payments_of (i + 1) (drop at bs)
+payments_more bs at i list p h inv e =
+    let here : p ≡ payment_of (drop (40 * i) (drop at bs)) = e ∙ ap payment_of (sym (drop-drop (40 * i) at bs)) in
+    take_more_set list i p h ∙ ap (λ ps. ps ++ p ∷ []) inv ∙ ap (λ q. payments_of i (drop at bs) ++ q ∷ []) here ∙ sym (payments_suc i (drop at bs)) ∙ ap (λ n. payments_of n (drop at bs)) (sym (add-one i))
 
 pub payment_length : (p : Payment) → GoodPayment p → length (payment_bytes p) ≡ 40
 payment_length p g = simp length-append (omega (arith, g.long))

@@ -1,5 +1,4 @@
 pub mod Appending
-pub mod Calls
 pub mod FourBytes
 pub mod FortyBytes
 pub mod SheetBytes

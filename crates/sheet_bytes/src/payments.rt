@@ -1,5 +1,5 @@
 // Payments as 40 bytes, and lists of them.
-ghost use Rattle.std.specs.Prelude.{◌≡◌, ◌+◌, ◌*◌, ◌<◌, ◌≤◌, length, take, drop};
+ghost use Rattle.std.specs.Prelude.{◌≡◌, ◌+◌, ◌*◌, ◌≤◌, length, take, drop};
 ghost use Rattle.std.specs.List.{flat_map};
 ghost use Rattle.sheet_bytes.specs.Appends.{Appended, Room, Put};
 ghost use Rattle.sheet_bytes.specs.Bytes.{payment_bytes, list_bytes, payment_of, payments_of, payment_read};
@@ -7,7 +7,6 @@ ghost use Rattle.sheet_bytes.specs.Bytes.{payment_bytes, list_bytes, payment_of,
 use crate::numbers::{holds, number_at, put_bytes, put_number};
 use sheet::Payment;
 use std::alloc::AllocError;
-use std::array;
 
 // Appends the bytes of a payment, for which there is room.
 fn put_payment(out: &mut Vec<u8>, payment: &Payment)
@@ -70,25 +69,17 @@ fn payment_at(bytes: &[u8], at: usize) -> Payment
     }
 }
 
-// The i-th of the payments from a place on, where the bytes of `count` are known to be; any payment past these.
-fn nth_payment(bytes: &[u8], at: usize, count: usize, i: usize) -> Payment
-    requires { at + 40 * count ≤ length bytes.now }
-    ensures { i < count → result ≡ payment_of (drop (at + 40 * i) bytes.now) }
-{
-    if i < count {
-        payment_at(bytes, at + 40 * i)
-    } else {
-        Payment::default()
-    }
-}
-
-// The payments from a place on, where their bytes are known to be.
-pub(crate) fn payments_at(bytes: &[u8], at: usize, count: usize) -> [Payment; 32]
+// Reads the payments from a place on, where their bytes are known to be, into the front of `list`. An array that is given
+// back would be filled and copied once more.
+pub(crate) fn payments_at(bytes: &[u8], at: usize, count: usize, list: &mut [Payment; 32])
     requires few { count ≤ 32 }
     requires within { at + 40 * count ≤ length bytes.now }
-    ensures { take count result ≡ payments_of count (drop at bytes.now) }
+    ensures { take count list.new ≡ payments_of count (drop at bytes.now) }
 {
-    array::from_fn(|i| nth_payment(bytes, at, count, i))
+    let (forties, _) = bytes[at..at + 40 * count].as_chunks::<40>();
+    for (i, forty) in forties.iter().enumerate() {
+        list[i] = payment_at(forty, 0);
+    }
 }
 
 // The payment at a place; None where its 40 bytes aren't there. With read_number it shares `holds`: one `if` is left.

@@ -9,7 +9,7 @@ ghost use Rattle.sheet_bytes.specs.Sheets.{contents};
 use crate::numbers::{number_at, put_bytes, put_number, rest_from};
 use crate::payments::{payments_at, put_list};
 use refusal::Refusal;
-use sheet::Sheet;
+use sheet::{Payment, Sheet};
 use std::alloc::AllocError;
 
 // A sheet, and how many bytes it was read from.
@@ -76,8 +76,10 @@ pub fn read_sheet(bytes: &[u8]) -> Result<SheetRead, Refusal>
     let (in_count, out_count) = counts(bytes).ok_or(Refusal::Unreadable)?;
     let number = number_at(bytes, 1);
     let (own, theirs) = (number_at(bytes, 5), number_at(bytes, 9));
-    let ins = payments_at(bytes, 14, in_count);
-    let outs = payments_at(bytes, 15 + 40 * in_count, out_count);
+    let mut ins = [Payment::default(); 32];
+    payments_at(bytes, 14, in_count, &mut ins);
+    let mut outs = [Payment::default(); 32];
+    payments_at(bytes, 15 + 40 * in_count, out_count, &mut outs);
     let (ins, outs) = (&ins[..in_count], &outs[..out_count]);
     let sheet = Sheet::from_parts(bytes[0], number, own, theirs, ins, outs).ok_or(
         Refusal::Unreadable,
