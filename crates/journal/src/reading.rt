@@ -1,6 +1,6 @@
 // Reading records: one at a place, and how far the whole ones reach.
-ghost use Rattle.std.specs.Prelude.{◌≡◌, ◌+◌, ◌-◌, ◌<◌, ◌≤◌, length, drop, IfErr, MatchResult, slice_index, Ok};
-ghost use Rattle.journal.specs.Records.{overfull, passed_after, key_after, record_read, whole_part};
+ghost use Rattle.std.specs.Prelude.{◌≡◌, ◌+◌, ◌-◌, ◌<◌, ◌≤◌, ◌==◌, false, length, drop, if◌then◌else◌, IfErr, MatchResult, slice_index, Ok};
+ghost use Rattle.journal.specs.Records.{signed_record, both_record, overfull, sheet_after, passed_after, key_after, record_read, whole_part};
 ghost use Rattle.journal.specs.Readings.{outcome, Uses, reach};
 
 use crate::types::{Damaged, Record, RecordRead};
@@ -49,6 +49,26 @@ fn read_key_after(rest: &[u8]) -> Option<RecordRead>
     })
 }
 
+// Reads a record with a sheet, past its first byte, which says who has signed it. Apart from the others, since a function pays
+// on each call for the size of what it has room for, and a sheet is large.
+fn read_sheet_after(first: u8, rest: &[u8]) -> Option<RecordRead>
+    requires { overfull rest.now ≡ false }
+    ensures value { outcome (Ok result) ≡ sheet_after (if first == 4 then signed_record else both_record) rest.now }
+    ensures within { Uses (Ok result) (λ n. n ≤ 1 + length rest.now) }
+    ensures some { Uses (Ok result) (λ n. 0 < n) }
+{
+    let got = read_sheet(rest).ok()?;
+    let record = if first == 4 {
+        Record::Signed(got.sheet)
+    } else {
+        Record::Both(got.sheet)
+    };
+    Some(RecordRead {
+        record,
+        used: 1 + got.used,
+    })
+}
+
 // Reads the record at a place; None where the bytes end inside it, or none is left.
 pub fn read_record(bytes: &[u8], at: usize) -> Result<Option<RecordRead>, Damaged>
     ensures value { outcome result ≡ record_read (drop at bytes.now) }
@@ -59,24 +79,14 @@ pub fn read_record(bytes: &[u8], at: usize) -> Result<Option<RecordRead>, Damage
     let Some([first, rest @ ..]) = bytes.get(at..) else {
         return Ok(None);
     };
-    match *first {
-        4 | 5 if is_overfull(rest) => Err(Damaged { at }),
-        4 => Ok(
-            read_sheet(rest).ok().map(|got| RecordRead {
-                record: Record::Signed(got.sheet),
-                used: 1 + got.used,
-            }),
-        ),
-        5 => Ok(
-            read_sheet(rest).ok().map(|got| RecordRead {
-                record: Record::Both(got.sheet),
-                used: 1 + got.used,
-            }),
-        ),
-        6 => Ok(read_passed_after(rest)),
-        7 => Ok(read_key_after(rest)),
-        _ => Err(Damaged { at }),
-    }
+    let read = match *first {
+        4 | 5 if is_overfull(rest) => return Err(Damaged { at }),
+        4 | 5 => read_sheet_after(*first, rest),
+        6 => read_passed_after(rest),
+        7 => read_key_after(rest),
+        _ => return Err(Damaged { at }),
+    };
+    Ok(read)
 }
 
 // How many bytes the whole records from the start take: where the file is cut back to.
