@@ -14,12 +14,12 @@ use node_state::Node;
 use refusal::Refusal;
 
 // The account after a look at the tick.
-fn looked(account: Account, tick: u32) -> Account
-    ensures { standing_of result ≡ looked_at tick (standing_of account) }
+fn looked(account: &Account, tick: u32) -> Account
+    ensures { standing_of result ≡ looked_at tick (standing_of account.now) }
 {
     Account {
         looked: Some(tick),
-        ..account
+        ..*account
     }
 }
 
@@ -39,14 +39,16 @@ pub fn any_later(node: &Node, tick: u32) -> bool
         .any(|account| is_later(account, tick))
 }
 
-// Each account is changed, by its number.
-pub fn change_each<F: Fn(usize, Account) -> Account>(node: &mut Node, change: F)
+// Each account is changed, by its number. The closure is lent the account: it has more than five thousand bytes, and would be
+// copied again wherever it is handed on.
+pub fn change_each<F: Fn(usize, &Account) -> Account>(node: &mut Node, change: F)
     requires { F.IsAlwaysCallable change }
-    ensures { (meaning : ℕ → Standing → Standing) → ((i : ℕ) (a b : Account) → F.post change i a b → standing_of b ≡ meaning i (standing_of a)) → state_of node.new ≡ with_accounts (state_of node.old) (each_from meaning 0 (state_of node.old).accounts) }
+    ensures { (meaning : ℕ → Standing → Standing) → ((i : ℕ) (a : _) (b : Account) → F.post change i a b → standing_of b ≡ meaning i (standing_of a.now)) → state_of node.new ≡ with_accounts (state_of node.old) (each_from meaning 0 (state_of node.old).accounts) }
 {
     // by number, since only `put` changes an account
     for i in 0..node.many() {
-        let after = change(i, node.account(i));
+        let account = node.account(i);
+        let after = change(i, &account);
         node.put(i, after);
     }
 }

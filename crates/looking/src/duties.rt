@@ -61,15 +61,15 @@ impl LookAt<'_> {
     }
 
     // The account after the look.
-    pub(crate) fn looked(&self, account: Account) -> Account
-        ensures { standing_of result ≡ looked_of self.now.delay self.now.tick self.now.shown.now self.now.i (standing_of account) }
+    pub(crate) fn looked(&self, account: &Account) -> Account
+        ensures { standing_of result ≡ looked_of self.now.delay self.now.tick self.now.shown.now self.now.i (standing_of account.now) }
     {
-        let disputed = account.disputed || self.has_dispute() || self.opens(&account);
+        let disputed = account.disputed || self.has_dispute() || self.opens(account);
         Account {
             looked: Some(self.tick),
             disputed,
-            sent: self.sent_after(&account),
-            ..account
+            sent: self.sent_after(account),
+            ..*account
         }
     }
 }

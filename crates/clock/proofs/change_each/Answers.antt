@@ -7,7 +7,7 @@ use Rattle.clock.proofs.change_each.Goals as goal
 pub loop-i-preserved : goal.loop-i-preserved
 loop-i-preserved g c =
     λ meaning means.
-    account_changed meaning (state_of c.args.node.now) (state_of c.loop-i.node) (state_of c.put.new.self) c.loop-i.i (standing_of c.account.result) (standing_of c.change-after.result) (omega arith) (c.loop-i.invariant meaning means) c.account.ensures (means _ _ _ c.change-after.ensures) c.put.ensures
+    account_changed meaning (state_of c.args.node.now) (state_of c.loop-i.node) (state_of c.put.new.self) c.loop-i.i (standing_of c.account-account.result) (standing_of c.change-after.result) (omega arith) (c.loop-i.invariant meaning means) c.account-account.ensures (means _ _ _ c.change-after.ensures) c.put.ensures
 
 pub returns : goal.returns
 returns g c =

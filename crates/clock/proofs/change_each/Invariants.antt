@@ -7,4 +7,4 @@ use Rattle.clock.proofs.change_each.Given as goal
 
 abbrev pub invariant-loop-i : goal.invariant-loop-i
 invariant-loop-i g l =
-    (meaning : ℕ → Standing → Standing) → ((i : ℕ) (a b : Account) → goal.F-post g l.change i a b → standing_of b ≡ meaning i (standing_of a)) → state_of l.node ≡ with_accounts (state_of l.initial.node) (changed_to meaning (state_of l.initial.node).accounts l.i)
+    (meaning : ℕ → Standing → Standing) → ((i : ℕ) (a : _) (b : Account) → goal.F-post g l.change i a b → standing_of b ≡ meaning i (standing_of a.now)) → state_of l.node ≡ with_accounts (state_of l.initial.node) (changed_to meaning (state_of l.initial.node).accounts l.i)
