@@ -7,6 +7,6 @@ use Rattle.counting.proofs.least.Goals as goal
 pub returns-in-None : goal.returns-in-None
 returns-in-None c =
     record {
-      value = (c.in-None.ensures, c.total.ensures.value, subst (λ (w : ℕ). IsLeast (state_of c.args.node.now) w) (sym c.total.ensures.value) (found_is_least (state_of c.args.node.now) c.in-None.ensures));
-      bound = c.total.ensures.bound;
+      value = (c.in-None.ensures, c.found.ensures.value, subst (λ (w : ℕ). IsLeast (state_of c.args.node.now) w) (sym c.found.ensures.value) (found_is_least (state_of c.args.node.now) c.in-None.ensures));
+      bound = c.found.ensures.bound;
     }
