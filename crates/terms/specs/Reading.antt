@@ -1,7 +1,6 @@
 -- What a text of terms says, line by line, and when the terms hold. Assumes nothing.
-use Rattle.std.specs.Prelude.{◌≡◌, ℕ, ◌+◌, ◌*◌, ◌≤◌, cond, List, [], ◌∷◌, ◌++◌, length, Some, None, Ok, Err, codes, Option, Result, ◌==◌, nat_le, nat_lt}
+use Rattle.std.specs.Prelude.{◌≡◌, ℕ, ◌+◌, ◌*◌, ◌≤◌, cond, List, [], ◌∷◌, length, take, replicate, Some, None, Ok, Err, codes, Option, Result, ◌==◌, nat_le, nat_lt, slice_set}
 use Rattle.std.specs.Str.{bytes_eq}
-use Rattle.arrayvec.specs.ArrayVec.{array_vec_len}
 use Rattle.lines.specs.declared.NumberFault.{NumberFault}
 use Rattle.lines.specs.declared.NumberFault.TheVariants.{NotANumber, TooLarge}
 use Rattle.lines.specs.Lines.{words, parts, cut_at, number_read}
@@ -9,6 +8,8 @@ use Rattle.terms.specs.declared.types.Entry.{Entry}
 use Rattle.terms.specs.declared.types.Entry.TheVariants.{Nothing, Gap, Window, Delay, Look, Account}
 use Rattle.terms.specs.declared.types.Wrong.{Wrong}
 use Rattle.terms.specs.declared.types.Wrong.TheVariants.{TooLong, NotUnderstood, NumberTooLarge, Twice, TooManyAccounts, DepositsTooLarge, NoGap, NoWindow, NoDelay, NoLook, NoAccount, LookBelowOne, WindowTooShort, GapTooShort}
+use Rattle.terms.specs.declared.types.Deposits.{Deposits}
+use Rattle.terms.specs.declared.types.DepositList.{DepositList}
 use Rattle.terms.specs.declared.types.Draft.{Draft}
 use Rattle.terms.specs.declared.types.Fault.{Fault}
 use Rattle.terms.specs.declared.types.Placed.{Placed}
@@ -57,6 +58,16 @@ words_say (word ∷ own ∷ theirs ∷ more ∷ others) = Err NotUnderstood
 abbrev pub line_says : List ℕ → Result Entry Wrong
 line_says line = words_say (words (cut_at 35 line).0)
 
+-- The deposits of no account, a list with those of one account more, and the deposits that a list has, in order.
+abbrev pub no_deposits : DepositList
+no_deposits = record { list = replicate 16 (record { own = 0; theirs = 0 }); count = 0 }
+
+abbrev pub one_more : DepositList → Deposits → DepositList
+one_more l a = record { list = slice_set l.list l.count a; count = l.count + 1 }
+
+abbrev pub deposits_in : DepositList → List Deposits
+deposits_in l = take l.count l.list
+
 -- A draft with what one line more says. Each of the four words stands once; there are at most 16 accounts.
 abbrev pub placed : ℕ → ℕ → Option Placed
 placed n line = Some (record { value = n; line = line })
@@ -85,9 +96,9 @@ said d line (Delay n) =
 said d line (Look n) =
     once d.look line (record { gap = d.gap; window = d.window; delay = d.delay; look = placed n line; deposits = d.deposits })
 said d line (Account a) =
-    cond (nat_le 16 (array_vec_len d.deposits)) (Err (faulted line TooManyAccounts))
+    cond (nat_le 16 d.deposits.count) (Err (faulted line TooManyAccounts))
     (cond (nat_lt 4294967295 (a.own + a.theirs)) (Err (faulted line DepositsTooLarge))
-    (Ok (record { gap = d.gap; window = d.window; delay = d.delay; look = d.look; deposits = record { items = d.deposits.items ++ a ∷ [] } })))
+    (Ok (record { gap = d.gap; window = d.window; delay = d.delay; look = d.look; deposits = one_more d.deposits a })))
 
 abbrev pub said_by : Draft → ℕ → Result Entry Wrong → Result Draft Fault
 said_by d line (Ok e) = said d line e
@@ -106,7 +117,7 @@ missing w = record { line = None; wrong = w }
 
 abbrev pub with_look : Draft → (gap window delay : Placed) → Option Placed → Result Agreed Fault
 with_look d gap window delay None = Err (missing NoLook)
-with_look d gap window delay (Some look) = cond (array_vec_len d.deposits == 0) (Err (missing NoAccount)) (hold d gap window delay look)
+with_look d gap window delay (Some look) = cond (d.deposits.count == 0) (Err (missing NoAccount)) (hold d gap window delay look)
 
 abbrev pub with_delay : Draft → (gap window : Placed) → Option Placed → Result Agreed Fault
 with_delay d gap window None = Err (missing NoDelay)
@@ -135,7 +146,7 @@ all_say d line (x ∷ xs) = on_draft (said_by d line (line_says x)) (λ e. all_s
 -- Nothing was said yet.
 abbrev pub empty : Draft
 empty =
-    record { gap = None; window = None; delay = None; look = None; deposits = record { items = [] } }
+    record { gap = None; window = None; delay = None; look = None; deposits = no_deposits }
 
 abbrev pub agreed_by : Result Draft Fault → Result Agreed Fault
 agreed_by (Ok d) = agreed d
@@ -150,7 +161,7 @@ pub record Holds (a : Agreed) : Type 0 where
   pub look : 1 ≤ a.terms.look
   pub window : a.terms.look + a.terms.delay + 1 ≤ a.terms.window
   pub gap : a.terms.window + 3 * a.terms.delay + 3 * a.terms.look ≤ a.terms.gap
-  pub some : 1 ≤ array_vec_len a.deposits
+  pub some : 1 ≤ a.deposits.count
 
 -- Whatever text they come from, the terms hold.
 abbrev pub TermsHold : Type 0

@@ -4,8 +4,7 @@ ghost use Rattle.lines.specs.Lines.{parts};
 ghost use Rattle.terms.specs.Reading.{placed_once, said, said_by, line_says, all_say, empty, agreed};
 
 use crate::entries::entry_of;
-use crate::types::{Agreed, Deposits, Draft, Entry, Fault, Placed, Wrong};
-use arrayvec::ArrayVec;
+use crate::types::{Agreed, DepositList, Deposits, Draft, Entry, Fault, Placed, Wrong};
 use schedule::{Numbers, TooSmall};
 
 // The number of a word, which stands once.
@@ -19,17 +18,19 @@ fn once(before: Option<Placed>, line: usize, value: u32) -> Result<Option<Placed
 }
 
 // One account more.
-fn with_account(mut draft: Draft, line: usize, deposits: Deposits) -> Result<Draft, Fault>
+fn with_account(draft: Draft, line: usize, deposits: Deposits) -> Result<Draft, Fault>
     ensures { result ≡ said draft line (Entry.Account deposits) }
 {
-    if draft.deposits.is_full() {
+    if draft.deposits.count >= 16 {
         return Err(Fault::at(line, Wrong::TooManyAccounts));
     }
     if deposits.own.checked_add(deposits.theirs).is_none() {
         return Err(Fault::at(line, Wrong::DepositsTooLarge));
     }
-    draft.deposits.push(deposits);
-    Ok(draft)
+    Ok(Draft {
+        deposits: draft.deposits.with(deposits),
+        ..draft
+    })
 }
 
 // The draft with what a line says.
@@ -76,7 +77,7 @@ pub(crate) fn draft_of(text: &[u8]) -> Result<Draft, Fault>
         window: None,
         delay: None,
         look: None,
-        deposits: ArrayVec::new(),
+        deposits: DepositList::new(),
     };
     for (i, line) in text.split(|b| *b == b'\n').enumerate() {
         draft = with_line(draft, i + 1, line)?;
@@ -92,7 +93,7 @@ pub(crate) fn agreed_by(draft: Draft) -> Result<Agreed, Fault>
     let window = draft.window.ok_or(Fault::missing(Wrong::NoWindow))?;
     let delay = draft.delay.ok_or(Fault::missing(Wrong::NoDelay))?;
     let look = draft.look.ok_or(Fault::missing(Wrong::NoLook))?;
-    if draft.deposits.is_empty() {
+    if draft.deposits.count == 0 {
         return Err(Fault::missing(Wrong::NoAccount));
     }
     match Numbers::new(gap.value, window.value, delay.value, look.value) {

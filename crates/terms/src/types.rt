@@ -1,5 +1,4 @@
 // What a text of terms says, and what can be wrong with it.
-use arrayvec::ArrayVec;
 use schedule::Terms;
 
 // What the two put into an account at the start.
@@ -7,6 +6,13 @@ use schedule::Terms;
 pub struct Deposits {
     pub own: u32,
     pub theirs: u32,
+}
+
+// The deposits of up to 16 accounts, in order; what stands past the count is of no matter. Not the library's ArrayVec, which can't be copied: terms can.
+#[derive(Clone, Copy)]
+pub struct DepositList {
+    pub(crate) list: [Deposits; 16],
+    pub(crate) count: usize,
 }
 
 // What one line says.
@@ -55,18 +61,18 @@ pub struct Placed {
 }
 
 // What the lines have said so far: the deposits are those of the accounts in order.
-#[derive(Drop)]
+#[derive(Clone, Copy)]
 pub struct Draft {
     pub gap: Option<Placed>,
     pub window: Option<Placed>,
     pub delay: Option<Placed>,
     pub look: Option<Placed>,
-    pub deposits: ArrayVec<Deposits, 16>,
+    pub deposits: DepositList,
 }
 
 // Terms that hold, and the deposits of the accounts in order.
-#[derive(Drop)]
+#[derive(Clone, Copy)]
 pub struct Agreed {
     pub terms: Terms,
-    pub deposits: ArrayVec<Deposits, 16>,
+    pub deposits: DepositList,
 }
