@@ -22,12 +22,12 @@ const GROUND: &str = "fill=\"#ffffff\"";
 fn put_head(canvas: &mut Canvas, picture: &Picture, layout: &Layout) -> Result<(), AllocError> {
     canvas.open(layout.width, layout.height)?;
     canvas.put("<title>")?;
-    canvas.put_escaped(picture.title.as_bytes())?;
+    canvas.put_escaped(picture.title.as_slice())?;
     canvas.put("</title>\n")?;
     let corner = Place { x: 0, y: 0 };
     canvas.rectangle(corner, layout.width, layout.height, GROUND)?;
     let title = "class=\"title\" font-size=\"16\" fill=\"#222222\"";
-    canvas.text(Place { x: 20, y: 28 }, title, "", picture.title.as_bytes())?;
+    canvas.text(Place { x: 20, y: 28 }, title, "", picture.title.as_slice())?;
     let legend = "font-size=\"11\" fill=\"#666666\"";
     canvas.text(Place { x: 20, y: 48 }, legend, "", LEGEND)
 }
@@ -55,7 +55,7 @@ fn put_lane(
     canvas.rectangle(corner, 120, 26, style)?;
     let name = layout.in_lane(at, top.saturating_add(18));
     let style = "fill=\"#222222\" text-anchor=\"middle\" font-weight=\"bold\"";
-    canvas.text(name, style, "", lane.name.as_bytes())
+    canvas.text(name, style, "", lane.name.as_slice())
 }
 
 fn put_lanes(canvas: &mut Canvas, layout: &Layout, lanes: &[Lane]) -> Result<(), AllocError> {
@@ -152,7 +152,7 @@ fn put_arrow(
         y: y.saturating_sub(5),
     };
     let style = if row.refused { RED_CENTRED } else { CENTRED };
-    canvas.text(place, style, word_before(row), row.text.as_bytes())
+    canvas.text(place, style, word_before(row), row.text.as_slice())
 }
 
 // The sign of a mark in its lane.
@@ -196,7 +196,7 @@ fn put_beside(canvas: &mut Canvas, row: &Row, sign: Place, x: u64) -> Result<(),
         y: sign.y.saturating_add(4),
     };
     let style = if row.refused { RED } else { PLAIN };
-    canvas.text(place, style, word_before(row), row.text.as_bytes())
+    canvas.text(place, style, word_before(row), row.text.as_slice())
 }
 
 fn put_row(canvas: &mut Canvas, layout: &Layout, at: usize, row: &Row) -> Result<(), AllocError> {

@@ -10,7 +10,7 @@ pub struct Total {
 // A line downwards, for a party or for the register.
 #[derive(Drop)]
 pub struct Lane {
-    pub name: String,
+    pub name: Vec<u8>,
     pub total: Option<Total>,
 }
 
@@ -34,12 +34,12 @@ pub struct Row {
     pub tick: u32,
     pub mark: Mark,
     pub refused: bool,
-    pub text: String,
+    pub text: Vec<u8>,
 }
 
 #[derive(Drop)]
 pub struct Picture {
-    pub title: String,
+    pub title: Vec<u8>,
     pub lanes: Vec<Lane>,
     pub rows: Vec<Row>,
 }

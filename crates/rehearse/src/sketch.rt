@@ -128,7 +128,7 @@ impl Artist<'_> {
                 let text = String::from_str(heap, "signs")?;
                 Ok((self.lanes.arrow(from, to), text))
             }
-            Deed::Sends { from, to } => {
+            Deed::Sends { from, to, .. } => {
                 let text = String::from_str(heap, "sends bytes")?;
                 Ok((self.lanes.arrow(from, to), text))
             }

@@ -19,7 +19,7 @@ impl Deed {
             | Deed::Returns { from, to, .. }
             | Deed::Settles { from, to, .. }
             | Deed::Signs { from, to }
-            | Deed::Sends { from, to } => (from, to),
+            | Deed::Sends { from, to, .. } => (from, to),
         }
     }
 }

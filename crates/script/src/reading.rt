@@ -1,4 +1,6 @@
 // Reading a script, line by line.
+ghost use Rattle.std.specs.Prelude.{IfOk, IsSome};
+
 use crate::commands::Parts;
 use crate::forms::{Says, Setting};
 use crate::matching::{Misfit, said_by};
@@ -9,7 +11,6 @@ use crate::types::{Command, Deed, Fault, Opening, Party, ReadFault, Script, Step
 use lines::{hex_bytes, part_at};
 use schedule::Numbers;
 use std::alloc::Global;
-use std::str;
 
 const LAST_TICK: u32 = 1_000_000;
 
@@ -26,6 +27,7 @@ struct Reader {
     parties: Vec<Party>,
     openings: Vec<Opening>,
     steps: Vec<Step>,
+    raws: Vec<Vec<u8>>,
 }
 
 impl Reader {
@@ -38,6 +40,7 @@ impl Reader {
             parties: Vec::new(heap),
             openings: Vec::new(heap),
             steps: Vec::new(heap),
+            raws: Vec::new(heap),
         }
     }
 
@@ -60,11 +63,10 @@ impl Reader {
     }
 
     fn take_party(&mut self, name: &[u8], is_node: bool) -> Result<(), ReadFault> {
-        let name = str::from_utf8(name).map_err(|_| self.wrong(1, Wrong::NotAName))?;
         check_party(self.parties.as_slice(), name, is_node).map_err(|misfit| misfit.in_line(
             self.line,
         ))?;
-        let name = String::from_str(self.heap, name)?;
+        let name = Vec::from_slice(self.heap, name)?;
         self.parties.push(Party { name, is_node })?;
         Ok(())
     }
@@ -101,14 +103,13 @@ impl Reader {
         }
     }
 
-    fn add_step(&mut self, command: Command, raw: Option<Vec<u8>>) -> Result<(), ReadFault> {
+    fn add_step(&mut self, command: Command) -> Result<(), ReadFault> {
         check_accounts(self.openings.as_slice(), &command).map_err(|misfit| misfit.in_line(
             self.line,
         ))?;
         self.steps.push(Step {
             line: self.line,
             command,
-            raw,
         })?;
         Ok(())
     }
@@ -122,7 +123,7 @@ impl Reader {
             return Err(self.wrong(1, Wrong::TickBefore));
         }
         self.tick = tick;
-        self.add_step(Command::Tick { tick }, None)
+        self.add_step(Command::Tick { tick })
     }
 
     fn check_hex(&self, text: &[u8], word: usize) -> Result<(), ReadFault> {
@@ -139,8 +140,14 @@ impl Reader {
         let mut raw = Vec::from_slice(self.heap, word_at(text, 3))?;
         raw.push(b' ')?;
         raw.extend_from_slice(word_at(text, 4))?;
+        let number = self.raws.len();
+        self.raws.push(raw)?;
         let [from, to, _] = parts.parties;
-        self.add_step(Command::Deed(Deed::Sends { from, to }), Some(raw))
+        self.add_step(Command::Deed(Deed::Sends {
+            from,
+            to,
+            raw: number,
+        }))
     }
 
     // One line, without its comment.
@@ -157,7 +164,7 @@ impl Reader {
             Says::Tick => self.take_tick(number),
             Says::Wait => self.take_tick(self.tick.saturating_add(number)),
             Says::Sends => self.take_raw(&parts, text),
-            Says::Verb(verb) => self.add_step(verb.command(&parts), None),
+            Says::Verb(verb) => self.add_step(verb.command(&parts)),
         }
     }
 
@@ -181,16 +188,19 @@ fn wrong_whole(wrong: Wrong) -> ReadFault {
 }
 
 // The script that a text writes, or what is wrong with it and where.
-pub fn read_script(heap: Global, text: &[u8]) -> Result<Script, ReadFault> {
+pub fn read_script(heap: Global, text: &[u8]) -> Result<Script, ReadFault>
+    ensures { IfOk result (λ s. IsSome s.numbers) }
+{
     if text.len() > LONGEST {
         return Err(wrong_whole(Wrong::TooLong));
     }
     let mut reader = Reader::new(heap);
     reader.take_lines(text)?;
     Ok(Script {
-        numbers: reader.numbers.ok_or(wrong_whole(Wrong::NoTerms))?,
+        numbers: Some(reader.numbers.ok_or(wrong_whole(Wrong::NoTerms))?),
         parties: reader.parties,
         openings: reader.openings,
         steps: reader.steps,
+        raws: reader.raws,
     })
 }

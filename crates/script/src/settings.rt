@@ -23,16 +23,15 @@ impl From<TooSmall> for Misfit {
 }
 
 // A letter, and then letters, digits, - and _.
-fn is_name(name: &str) -> bool {
-    let bytes = name.as_bytes();
-    bytes.first().is_some_and(|b| b.is_ascii_alphabetic())
-        && bytes
+fn is_name(name: &[u8]) -> bool {
+    name.first().is_some_and(|b| b.is_ascii_alphabetic())
+        && name
             .iter()
             .all(|b| b.is_ascii_alphanumeric() || *b == b'-' || *b == b'_')
 }
 
 // A party with this name has to be one that may be added.
-pub(crate) fn check_party(parties: &[Party], name: &str, is_node: bool) -> Result<(), Misfit> {
+pub(crate) fn check_party(parties: &[Party], name: &[u8], is_node: bool) -> Result<(), Misfit> {
     let nodes = parties.iter().filter(|party| party.is_node).count();
     let wrong = if !is_name(name) {
         Wrong::NotAName

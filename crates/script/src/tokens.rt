@@ -30,7 +30,7 @@ impl Token {
     // The party with a name.
     fn named(parties: &[Party], name: &[u8]) -> Token {
         for (index, party) in parties.iter().enumerate() {
-            if party.name.as_bytes() == name {
+            if party.name.as_slice() == name {
                 return Token::Party {
                     index,
                     is_node: party.is_node,

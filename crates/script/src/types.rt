@@ -4,7 +4,7 @@ use schedule::Numbers;
 // Somebody in the script: a node that keeps the rules, or another, who does what the script says.
 #[derive(Drop)]
 pub struct Party {
-    pub name: String,
+    pub name: Vec<u8>,
     pub is_node: bool,
 }
 
@@ -52,10 +52,11 @@ pub enum Deed {
         from: usize,
         to: usize,
     },
-    // sends bytes as a message
+    // sends bytes as a message, by their number among those of the script
     Sends {
         from: usize,
         to: usize,
+        raw: usize,
     },
 }
 
@@ -134,22 +135,22 @@ pub enum Command {
     Show,
 }
 
-// A command, and its line, counted from 1. `raw` has the words of hexadecimal digits of a message that is sent as bytes:
-// it stands beside `Sends`, since a command with a Vec in it could not be copied into what is told of it.
-#[derive(Drop)]
+// A command, and its line, counted from 1.
+#[derive(Clone, Copy)]
 pub struct Step {
     pub line: u32,
     pub command: Command,
-    pub raw: Option<Vec<u8>>,
 }
 
-// A whole script.
+// A whole script; one that is read has terms. `raws` are the messages that are sent as bytes, as words of hexadecimal digits:
+// a command has the number of its bytes, so that it can be copied into what is told of it.
 #[derive(Drop)]
 pub struct Script {
-    pub numbers: Numbers,
+    pub numbers: Option<Numbers>,
     pub parties: Vec<Party>,
     pub openings: Vec<Opening>,
     pub steps: Vec<Step>,
+    pub raws: Vec<Vec<u8>>,
 }
 
 // What is wrong with a word of a line, or with the script as a whole.

@@ -105,7 +105,7 @@ fn add_rows(heap: Global, rows: &mut Vec<Row>, entries: &[Entry]) -> Result<(), 
             tick: entry.tick,
             mark: entry.mark,
             refused: false,
-            text: String::from_str(heap, entry.text)?,
+            text: Vec::from_slice(heap, entry.text.as_bytes())?,
         };
         rows.push(row)?;
     }
@@ -127,7 +127,7 @@ fn lanes(heap: Global) -> Result<Vec<Lane>, AllocError> {
     let mut lanes = Vec::new(heap);
     for (at, name) in NAMES.iter().enumerate() {
         let lane = Lane {
-            name: String::from_str(heap, name)?,
+            name: Vec::from_slice(heap, name.as_bytes())?,
             total: total_of(at),
         };
         lanes.push(lane)?;
@@ -140,7 +140,7 @@ fn spring(heap: Global) -> Result<Vec<u8>, AllocError> {
     add_rows(heap, &mut rows, &promises())?;
     add_rows(heap, &mut rows, &dispute())?;
     let picture = Picture {
-        title: String::from_str(heap, TITLE)?,
+        title: Vec::from_slice(heap, TITLE.as_bytes())?,
         lanes: lanes(heap)?,
         rows,
     };

@@ -157,7 +157,8 @@ impl World {
             let Some(next) = self.scene.progress.deliveries.pop_front() else {
                 return Ok(());
             };
-            self.tell(next.to, next.account, next.message, Entry::Letter(next))?;
+            let account = self.number_of(next.to, next.from);
+            self.tell(next.to, account, next.message, Entry::Letter(next))?;
         }
         Ok(())
     }

@@ -217,11 +217,10 @@ impl Joint {
         let other = self.other_end(from);
         let to = other.party;
         progress.note(Happening::Sent { from, to, letter })?;
-        if let Some(account) = other.number {
+        if other.number.is_some() {
             progress.deliveries.push_back(Delivery {
                 from,
                 to,
-                account,
                 letter,
                 message,
             })?;

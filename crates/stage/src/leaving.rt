@@ -22,7 +22,7 @@ impl Scene {
             return self.item_comes(account, item);
         }
         let due = comes_in_by(self.progress.tick, self.terms.delay);
-        self.arrivals.push(Arrival { due, account, item })?;
+        self.arrivals.push_back(Arrival { due, account, item })?;
         Ok(())
     }
 

@@ -3,6 +3,8 @@
 // register, looking, rules, plan, journal, replay and the crates below them.
 #![tactic(auto)]
 
+ghost use Rattle.std.specs.Prelude.{◌≡◌, [], IsNone, IsOkAnd};
+
 use crate::joint::{End, Joint};
 use crate::player::Player;
 use crate::progress::Progress;
@@ -12,6 +14,7 @@ use schedule::Terms;
 use script::{Opening, Script};
 use sheet::Sheet;
 use std::alloc::Global;
+use std::collections::VecDeque;
 
 mod ending;
 mod entries;
@@ -92,8 +95,7 @@ fn joints_of(
     Ok(joints)
 }
 
-fn world_of(heap: Global, script: &Script) -> Result<World, Trouble> {
-    let terms = script.numbers.values();
+fn world_of(heap: Global, script: &Script, terms: Terms) -> Result<World, Trouble> {
     let mut players = players_of(heap, script, terms)?;
     let accounts = joints_of(heap, players.as_mut_slice(), script.openings.as_slice())?;
     let scene = Scene {
@@ -101,18 +103,23 @@ fn world_of(heap: Global, script: &Script) -> Result<World, Trouble> {
         terms,
         at_once: false,
         accounts,
-        arrivals: Vec::new(heap),
+        arrivals: VecDeque::new(heap),
         progress: Progress::new(heap),
     };
     Ok(World { players, scene })
 }
 
-// All that happens in a script, from the first look to what each node comes out with.
-pub fn play(heap: Global, script: &Script) -> Result<Vec<Event>, Trouble> {
-    let mut world = world_of(heap, script)?;
+// All that happens in a script, from the first look to what each node comes out with; nothing where it has no terms.
+pub fn play(heap: Global, script: &Script) -> Result<Vec<Event>, Trouble>
+    ensures { IsNone script.now.numbers → IsOkAnd result (λ events. events.items ≡ []) }
+{
+    let Some(numbers) = script.numbers else {
+        return Ok(Vec::new(heap));
+    };
+    let mut world = world_of(heap, script, numbers.values())?;
     world.first_looks()?;
     for step in script.steps.iter() {
-        world.play_step(step)?;
+        world.play_step(step, script.raws.as_slice())?;
     }
     world.end_all()?;
     let World { scene, .. } = world;

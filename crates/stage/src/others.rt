@@ -48,7 +48,7 @@ fn number_to_sign(account: &Account) -> u32 {
 impl World {
     // A node's account with another party.
     fn standing_with(&self, node: usize, other: usize) -> Option<Account> {
-        let number = self.number_of(node, other)?;
+        let number = self.number_of(node, other);
         Some(self.player(node)?.node.account(usize::from(number)))
     }
 
@@ -66,10 +66,8 @@ impl World {
         message: Message,
         command: Command,
     ) -> Result<(), Trouble> {
-        match self.number_of(to, from) {
-            Some(account) => self.told(to, account, message, command),
-            None => Ok(()),
-        }
+        let account = self.number_of(to, from);
+        self.told(to, account, message, command)
     }
 
     // Another proposes a sheet with a change to what a node holds. The two parties come of the command, which goes along to be

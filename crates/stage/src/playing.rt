@@ -19,10 +19,8 @@ impl World {
     ) -> Result<(), Trouble>
         requires { F.IsAlwaysCallable call }
     {
-        match self.number_of(node, other) {
-            Some(account) => self.ask(node, call(u32::from(account)), command),
-            None => Ok(()),
-        }
+        let account = self.number_of(node, other);
+        self.ask(node, call(u32::from(account)), command)
     }
 
     // What an owner asks of its node.
@@ -34,14 +32,11 @@ impl World {
                 from,
                 to,
                 promised,
-            } => match self.number_of(node, from) {
-                Some(number) => {
-                    let from = u32::from(number);
-                    let payment = payment(promised);
-                    self.ask_about(node, to, |to| Call::Pass { from, to, payment }, command)
-                }
-                None => Ok(()),
-            },
+            } => {
+                let from = u32::from(self.number_of(node, from));
+                let payment = payment(promised);
+                self.ask_about(node, to, |to| Call::Pass { from, to, payment }, command)
+            }
             Wish::Pays { node, to, key } => {
                 let lock = lock_of(key);
                 self.ask_about(node, to, |account| Call::Pay { account, lock }, command)
@@ -62,8 +57,8 @@ impl World {
         }
     }
 
-    // What another does; `raw` is what it sends, where it sends bytes.
-    fn play_deed(&mut self, deed: Deed, raw: &Option<Vec<u8>>) -> Result<(), Trouble> {
+    // What another does; `raws` are the bytes that the script sends.
+    fn play_deed(&mut self, deed: Deed, raws: &[Vec<u8>]) -> Result<(), Trouble> {
         let command = Command::Deed(deed);
         match deed {
             Deed::Offers {
@@ -88,7 +83,7 @@ impl World {
                 signed,
             } => self.take_off(from, to, Change::Paying, key, signed, command),
             Deed::Signs { from, to } => self.sign(from, to, command),
-            Deed::Sends { from, to } => match raw {
+            Deed::Sends { from, to, raw } => match raws.get(raw) {
                 Some(raw) => self.send_raw(from, to, raw.as_slice(), command),
                 None => Ok(()),
             },
@@ -128,11 +123,11 @@ impl World {
         }
     }
 
-    // A line of the script.
-    pub(crate) fn play_step(&mut self, step: &Step) -> Result<(), Trouble> {
+    // A line of the script, and the bytes that the script sends.
+    pub(crate) fn play_step(&mut self, step: &Step, raws: &[Vec<u8>]) -> Result<(), Trouble> {
         self.scene.progress.line = Some(step.line);
         match step.command {
-            Command::Deed(deed) => self.play_deed(deed, &step.raw),
+            Command::Deed(deed) => self.play_deed(deed, raws),
             Command::Wish(wish) => self.play_wish(wish),
             Command::Showing(showing) => self.play_showing(showing),
             Command::Turn(turn) => self.play_turn(turn),

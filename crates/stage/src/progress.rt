@@ -4,12 +4,11 @@ use rules::Message;
 use std::alloc::Global;
 use std::collections::VecDeque;
 
-// A message of a node that goes to another node; `account` is the other's number for their account.
+// A message of a node that goes to another node, for the account of the two.
 #[derive(Clone, Copy)]
 pub(crate) struct Delivery {
     pub(crate) from: usize,
     pub(crate) to: usize,
-    pub(crate) account: u8,
     pub(crate) letter: Letter,
     pub(crate) message: Message,
 }

@@ -1,7 +1,7 @@
 // Time: what happens at each tick by itself.
 use crate::player::Player;
 use crate::types::{Happening, OfNode, Trouble};
-use crate::world::{Scene, World};
+use crate::world::{Arrival, Scene, World};
 use schedule::{is_due, is_missed};
 
 impl Scene {
@@ -13,17 +13,22 @@ impl Scene {
         Ok(())
     }
 
+    // The first thing on its way, if it is due: what was sent first comes in first, since all of it takes as long.
+    fn take_due(&mut self) -> Option<Arrival> {
+        if self.arrivals.front()?.due > u64::from(self.progress.tick) {
+            return None;
+        }
+        self.arrivals.pop_front()
+    }
+
     // All that is due at this tick comes into the register.
     fn due_comes(&mut self) -> Result<(), Trouble> {
-        let tick = u64::from(self.progress.tick);
-        for arrival in self.arrivals.iter() {
-            if arrival.due <= tick {
-                if let Some(joint) = self.accounts.get_mut(arrival.account) {
-                    joint.item_comes(&mut self.progress, self.terms, arrival.item)?;
-                }
-            }
+        for _ in 0..self.arrivals.len() {
+            let Some(arrival) = self.take_due() else {
+                return Ok(());
+            };
+            self.item_comes(arrival.account, arrival.item)?;
         }
-        self.arrivals.retain(|arrival| arrival.due > tick);
         Ok(())
     }
 

@@ -43,15 +43,15 @@ impl World {
         self.note(Happening::Node(OfNode::Stopped { node }))
     }
 
-    // The node comes up from its file, sends again, and looks unless the script keeps it from that.
+    // The node comes up from its file, sends again, and looks unless the script keeps it from that. Whoever is no node is told of
+    // as started too, as it is told of as stopped, and does nothing.
     fn come_up(&mut self, node: usize) -> Result<(), Trouble> {
+        let started = Happening::Node(OfNode::Started { node });
         let Some(player) = player_in(self.players.as_mut_slice(), node) else {
-            return Ok(());
+            return self.note(started);
         };
         player.start(self.scene.heap, self.scene.terms)?;
-        self.scene
-            .progress
-            .note(Happening::Node(OfNode::Started { node }))?;
+        self.scene.progress.note(started)?;
         self.scene.send_again(player)?;
         if player.looks_by_itself(self.scene.progress.tick) {
             self.scene.looks_itself(player)?;

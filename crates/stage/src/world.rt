@@ -5,6 +5,7 @@ use crate::progress::Progress;
 use crate::types::{Happening, Trouble};
 use schedule::Terms;
 use std::alloc::Global;
+use std::collections::VecDeque;
 
 // Something that a node sent to the register for an account, and the tick at which it comes in.
 #[derive(Clone, Copy)]
@@ -21,7 +22,7 @@ pub(crate) struct Scene {
     pub(crate) terms: Terms,
     pub(crate) at_once: bool,
     pub(crate) accounts: Vec<Joint>,
-    pub(crate) arrivals: Vec<Arrival>,
+    pub(crate) arrivals: VecDeque<Arrival>,
     pub(crate) progress: Progress,
 }
 
@@ -30,6 +31,9 @@ pub(crate) struct World {
     pub(crate) players: Vec<Player>,
     pub(crate) scene: Scene,
 }
+
+// A number that no account of a node has: it has 16 at most, counted from 0.
+const NO_ACCOUNT: u8 = 16;
 
 // The node of a party.
 pub(crate) fn player_in(players: &mut [Player], party: usize) -> Option<&mut Player> {
@@ -67,12 +71,14 @@ impl World {
             .find(|joint| joint.is_between(a, b))
     }
 
-    // A party's own number for its account with another.
-    pub(crate) fn number_of(&self, party: usize, other: usize) -> Option<u8> {
+    // A node's own number for its account with another; a number that is no account's where it has none, so that it is the node
+    // that refuses what is asked or told of it.
+    pub(crate) fn number_of(&self, node: usize, other: usize) -> u8 {
         self.scene
             .accounts
             .iter()
-            .find(|joint| joint.is_between(party, other))?
-            .number_for(party)
+            .find(|joint| joint.is_between(node, other))
+            .and_then(|joint| joint.number_for(node))
+            .unwrap_or(NO_ACCOUNT)
     }
 }
