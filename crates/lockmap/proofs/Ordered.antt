@@ -1,5 +1,5 @@
 -- That buckets are in order: one whose locks ascend, as std says of every map, after one is put back, and empty ones.
-use Rattle.std.proofs.Common.{◌≡◌, ℕ, zero, suc, true, eqb, List, [], ◌∷◌, length, set, Less, sym, ap, refl, subst, ◌∙◌}
+use Rattle.std.proofs.Common.{◌≡◌, ℕ, zero, suc, true, eqb, List, [], ◌∷◌, ◌++◌, length, set, Less, sym, ap, refl, subst, ◌∙◌}
 use Rattle.std.proofs.lemmas.List.{length-map}
 use Rattle.std.proofs.lemmas.Bool.{and_parts, and_from, eq-eqb}
 use Rattle.std.specs.BTreeMap.{BTreeMap, keys, values, IsOrdered, IsEmpty}
@@ -39,7 +39,13 @@ module _ {V : Type 0} where
   unfolding IsStrictlySortedBy
   ordered_empty b h = subst (λ es. IsStrictlySortedBy (slice_cmp nat_cmp) (keys_of es)) (sym h) tt
 
-  pub ordered_bare : (bs : List (BTreeMap (List ℕ) V)) → AllByRecursion IsEmpty bs → all_in_order bs ≡ true
+  pub ordered_none : (bs : List (BTreeMap (List ℕ) V)) → bs ≡ [] → all_in_order bs ≡ true
   unfolding all_in_order
-  ordered_bare [] h = refl
-  ordered_bare (x ∷ xs) h = and_from (in_order x) (all_in_order xs) (to_in_order x (ordered_empty x h.0)) (ordered_bare xs h.1)
+  ordered_none bs h = subst (λ xs. all_in_order xs ≡ true) (sym h) refl
+
+  pub ordered_pushed : (bs : List (BTreeMap (List ℕ) V)) (b : BTreeMap (List ℕ) V) → all_in_order bs ≡ true → IsEmpty b → all_in_order (bs ++ b ∷ []) ≡ true
+  unfolding all_in_order
+  ordered_pushed [] b h e = and_from (in_order b) true (to_in_order b (ordered_empty b e)) refl
+  ordered_pushed (x ∷ xs) b h e =
+      let p = and_parts (in_order x) (all_in_order xs) h in
+      and_from (in_order x) (all_in_order (xs ++ b ∷ [])) p.0 (ordered_pushed xs b p.1 e)

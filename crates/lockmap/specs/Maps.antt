@@ -9,7 +9,7 @@ use Rattle.lockmap.specs.Buckets.{held, all_len}
 
 module _ {V : Type 0} where
   abbrev pub lookup : LockMap V → List ℕ → Option V
-  lookup m = held (vec_items m.buckets)
+  lookup m = held (vec_items m.places) (vec_items m.buckets)
 
   -- `new` gives 0, and an insert of a lock that is not there adds 1
   abbrev pub count : LockMap V → ℕ

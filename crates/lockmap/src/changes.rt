@@ -2,7 +2,7 @@
 ghost use Rattle.std.specs.Prelude.{◌≡◌, ℕ, ◌+◌, List, is_some, is_ok, IfOk, if◌then◌else◌, None};
 ghost use Rattle.lockmap.specs.Maps.{lookup, count, with_at};
 
-use crate::buckets::{bucket_of, empty, put};
+use crate::buckets::{bucket_of, nowhere, put};
 use crate::map::LockMap;
 use std::alloc::{AllocError, Global};
 
@@ -11,8 +11,12 @@ impl<V: Copy> LockMap<V> {
         ensures empty { IfOk result (λ m. (l : List ℕ) → lookup m l ≡ None) }
         ensures none { IfOk result (λ m. count m ≡ 0) }
     {
-        let buckets = empty(heap, 4096)?;
-        Ok(LockMap { buckets, count: 0 })
+        let places = nowhere(heap)?;
+        Ok(LockMap {
+            places,
+            buckets: Vec::new(heap),
+            count: 0,
+        })
     }
 
     // The value that the lock had, if any, is replaced. Where memory fails, or the count would, the map is as it was.
@@ -24,7 +28,13 @@ impl<V: Copy> LockMap<V> {
         if self.count == usize::MAX {
             return Err(AllocError);
         }
-        let old = put(&mut self.buckets, bucket_of(&lock), lock, value)?;
+        let old = put(
+            &mut self.places,
+            &mut self.buckets,
+            bucket_of(&lock),
+            lock,
+            value,
+        )?;
         if old.is_none() {
             self.count += 1;
         }

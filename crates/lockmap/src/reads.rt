@@ -16,7 +16,7 @@ impl<V: Copy> LockMap<V> {
     pub fn get(&self, lock: &[u8; 32]) -> Option<V>
         ensures { result ≡ lookup self.now lock.now }
     {
-        find(&self.buckets, bucket_of(lock), lock)
+        find(&self.places, &self.buckets, bucket_of(lock), lock)
     }
 
     pub fn contains(&self, lock: &[u8; 32]) -> bool
