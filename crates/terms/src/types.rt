@@ -11,8 +11,8 @@ pub struct Deposits {
 // The deposits of up to 16 accounts, in order; what stands past the count is of no matter. Not the library's ArrayVec, which can't be copied: terms can.
 #[derive(Clone, Copy)]
 pub struct DepositList {
-    pub(crate) list: [Deposits; 16],
-    pub(crate) count: usize,
+    pub list: [Deposits; 16],
+    pub count: usize,
 }
 
 // What one line says.
