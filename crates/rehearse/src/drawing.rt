@@ -14,8 +14,12 @@ fn total_of(events: &[Event], party: usize) -> Option<Total> {
                 node,
                 put_in,
                 came_out,
+                settled,
             },
-        ) if node == party => Some(Total { put_in, came_out }),
+        ) if node == party => Some(Total {
+            put_in,
+            came_out: settled.then_some(came_out),
+        }),
         _ => None,
     })
 }

@@ -245,12 +245,14 @@ fn push_outcome(out: &mut String, cast: &Cast, what: &Outcome) -> Result<(), All
             node,
             put_in,
             came_out,
+            settled,
         } => {
             let node = cast.party(node);
             write!(out, r#""total","node":"{node}","put in":{put_in}"#)?;
-            match came_out {
-                Some(came_out) => write!(out, r#","settled":"yes","has":{came_out}"#),
-                None => out.push_str(r#","settled":"no""#),
+            if settled {
+                write!(out, r#","settled":"yes","has":{came_out}"#)
+            } else {
+                out.push_str(r#","settled":"no""#)
             }
         }
     }

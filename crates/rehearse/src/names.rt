@@ -37,19 +37,21 @@ pub(crate) enum Name {
     Bytes([u8; 32]),
 }
 
+// Eight bytes at a time: written one by one, they took twice as long as all else of a line.
+fn write_hex<W: fmt::Write>(f: &mut fmt::Formatter<W>, bytes: &[u8; 32]) -> fmt::Result {
+    let (parts, _) = bytes.as_chunks::<8>();
+    for part in parts {
+        let number = u64::from_be_bytes(*part);
+        write!(f, "{number:016x}")?;
+    }
+    Ok(())
+}
+
 impl fmt::Display for Name {
     fn fmt<W: fmt::Write>(&self, f: &mut fmt::Formatter<W>) -> fmt::Result {
         match *self {
             Name::Number(n) => write!(f, "{n}"),
-            // eight bytes at a time: written one by one, they took twice as long as all else of a line
-            Name::Bytes(bytes) => {
-                let (parts, _) = bytes.as_chunks::<8>();
-                for part in parts {
-                    let number = u64::from_be_bytes(*part);
-                    write!(f, "{number:016x}")?;
-                }
-                Ok(())
-            }
+            Name::Bytes(bytes) => write_hex(f, &bytes),
         }
     }
 }

@@ -197,12 +197,14 @@ fn push_outcome(out: &mut String, cast: &Cast, what: &Outcome) -> Result<(), All
             node,
             put_in,
             came_out,
+            settled,
         } => {
             let node = cast.party(node);
             write!(out, "{node} in all put in {put_in}")?;
-            match came_out {
-                Some(came_out) => write!(out, " has {came_out}"),
-                None => write!(out, " not settled"),
+            if settled {
+                write!(out, " has {came_out}")
+            } else {
+                write!(out, " not settled")
             }
         }
     }

@@ -70,21 +70,21 @@ impl Joint {
     }
 }
 
-// The accounts of a node together; `came_out` as long as all of them are settled.
+// The accounts of a node together: what came out of those that are settled, and whether all of them are.
 #[derive(Clone, Copy)]
 struct Sum {
     put_in: u64,
-    came_out: Option<u64>,
+    came_out: u64,
+    settled: bool,
 }
 
 impl Sum {
     fn add(self, put_in: u32, ending: Ending) -> Sum {
+        let paid = ending.paid();
         Sum {
             put_in: self.put_in.saturating_add(u64::from(put_in)),
-            came_out: self
-                .came_out
-                .zip(ending.paid())
-                .map(|(sum, paid)| sum.saturating_add(paid)),
+            came_out: self.came_out.saturating_add(paid.unwrap_or(0)),
+            settled: self.settled && paid.is_some(),
         }
     }
 }
@@ -99,7 +99,8 @@ fn end_node(
     let node = player.party;
     let mut sum = Sum {
         put_in: 0,
-        came_out: Some(0),
+        came_out: 0,
+        settled: true,
     };
     for joint in accounts {
         if let Some(ending) = joint.ending_of(player, terms, progress.tick) {
@@ -117,6 +118,7 @@ fn end_node(
         node,
         put_in: sum.put_in,
         came_out: sum.came_out,
+        settled: sum.settled,
     }))
 }
 

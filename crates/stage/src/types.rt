@@ -149,11 +149,12 @@ pub enum Outcome {
         put_in: u32,
         ending: Ending,
     },
-    // without `came_out` not all of it is settled
+    // `came_out` is of the accounts that are settled; `settled` says whether all of them are
     Total {
         node: usize,
         put_in: u64,
-        came_out: Option<u64>,
+        came_out: u64,
+        settled: bool,
     },
 }
 
